@@ -25,8 +25,8 @@ abbrev pub no_socket : ℤ
 no_socket = pos 88
 
 -- the error says that the descriptor is not an open, listening socket
-abbrev pub IsBroken : Error → Type 0
-IsBroken error = (raw_os_error error ≡ Some bad_descriptor)
+abbrev pub IsListenerBroken : Error → Type 0
+IsListenerBroken error = (raw_os_error error ≡ Some bad_descriptor)
     ⊎ (raw_os_error error ≡ Some does_not_listen) ⊎ (raw_os_error error ≡ Some no_socket)
 
 -- why an accept failed with any other error

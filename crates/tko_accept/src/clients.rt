@@ -35,26 +35,26 @@ pub struct Outgoing {
 
 /// A client: the two ends of its connection, and its time limits.
 #[derive(Drop)]
-pub struct Client {
+pub struct AcceptedClient {
     reader: Piped<Incoming>,
     writer: Piped<Outgoing>,
     patience: Patience,
 }
 
-impl Client {
+impl AcceptedClient {
     /// The client of a connection whose socket was set up with these time limits.
     pub(crate) fn new(
         alloc: Global,
         stream: TcpStream,
         place: ClientPlace,
         patience: Patience,
-    ) -> Result<Client, AllocError> {
+    ) -> Result<AcceptedClient, AllocError> {
         let connection = Arc::new(alloc, Connection { stream, place })?;
         let writer = Outgoing {
             connection: Arc::try_clone(&connection)?,
         };
         let reader = Incoming { connection };
-        Ok(Client {
+        Ok(AcceptedClient {
             reader: Piped::new(reader),
             writer: Piped::new(writer),
             patience,
@@ -91,7 +91,7 @@ impl Write for Outgoing {
 pub struct Clients {
     /// Present until the worker has asked for its first client.
     pub first_ask: Option<FirstAsk>,
-    pub accepted: Option<Receiver<Client>>,
+    pub accepted: Option<Receiver<AcceptedClient>>,
 }
 
 impl Source for Clients {

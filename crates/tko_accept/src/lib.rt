@@ -6,8 +6,8 @@
 //!   number of places, and a client keeps its `ClientPlace` until it is closed.
 //! - `Way`: how a client is handed to a worker; `OneQueue` does so for workers that serve one
 //!   client after another.
-//! - `Client`: the two ends of a client's connection over TCP; `Clients` is a worker's source of
-//!   them.
+//! - `AcceptedClient`: the two ends of a client's connection over TCP; `Clients` is a worker's
+//!   source of them.
 //! - `FirstAsks`: whether each worker has asked for its first connection, which it reports by its
 //!   `FirstAsk`.
 //! - `Allotment`: how many workers and clients the process has descriptors for.
@@ -23,7 +23,7 @@ mod way;
 
 pub use accepting::{AcceptEnd, Entrance, accept_all};
 pub use allotment::{Allotment, WAITING};
-pub use clients::{Client, Clients};
+pub use clients::{AcceptedClient, Clients};
 pub use first_asks::{FirstAsk, FirstAsks, first_asks_of};
 pub use listening::Listening;
 pub use room::{ClientPlace, Room};

@@ -1,7 +1,7 @@
 //! The listener, and the results of its accepts.
 ghost use Rattle.std.specs.Prelude.{◌≡◌, ◌⊎◌, ◌↔◌, ◌||◌, false, IsTrue};
 ghost use Rattle.std.specs.IoError.{error_kind};
-ghost use Rattle.tko_accept.specs.Accepting.{IsBroken, count_after, is_broken, stop_of_kind};
+ghost use Rattle.tko_accept.specs.Accepting.{IsListenerBroken, count_after, is_broken, stop_of_kind};
 
 use libc::net::listen;
 use std::io;
@@ -99,8 +99,8 @@ fn limit_accepts(listener: &TcpListener) -> io::Result<()> {
 
 /// Why an accept failed.
 fn stop_of(error: &io::Error) -> AcceptStop
-    ensures broken { (result ≡ AcceptStop.Broken) ↔ IsBroken error.now }
-    ensures others { IsBroken error.now ⊎ (result ≡ stop_of_kind (error_kind error.now)) }
+    ensures broken { (result ≡ AcceptStop.Broken) ↔ IsListenerBroken error.now }
+    ensures others { IsListenerBroken error.now ⊎ (result ≡ stop_of_kind (error_kind error.now)) }
 {
     if is_broken(error) {
         return AcceptStop::Broken;
@@ -114,7 +114,7 @@ fn stop_of(error: &io::Error) -> AcceptStop
 
 /// Whether the error says that the descriptor is not an open, listening socket.
 fn is_broken(error: &io::Error) -> bool
-    ensures { IsTrue result ↔ IsBroken error.now }
+    ensures { IsTrue result ↔ IsListenerBroken error.now }
 {
     let Some(number) = error.raw_os_error() else {
         return false;

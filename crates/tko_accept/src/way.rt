@@ -1,6 +1,6 @@
 //! How accepted clients are handed to the workers.
 
-use crate::clients::Client;
+use crate::clients::AcceptedClient;
 use crate::room::ClientPlace;
 use crossbeam_channel::Sender;
 use std::alloc::{AllocError, Global};
@@ -35,18 +35,18 @@ pub trait Way {
 /// One queue, from which each worker takes its next client.
 #[derive(Drop)]
 pub struct OneQueue {
-    clients: Sender<Client>,
+    clients: Sender<AcceptedClient>,
 }
 
 impl OneQueue {
     /// The queue whose workers receive from this channel.
-    pub fn new(clients: Sender<Client>) -> OneQueue {
+    pub fn new(clients: Sender<AcceptedClient>) -> OneQueue {
         OneQueue { clients }
     }
 }
 
 impl Way for OneQueue {
-    type Client = Client;
+    type Client = AcceptedClient;
 
     ghost is_closed = { λ _. Unit {0} };
 
@@ -55,11 +55,11 @@ impl Way for OneQueue {
         stream: TcpStream,
         place: ClientPlace,
         patience: Patience,
-    ) -> Result<Client, AllocError> {
-        Client::new(alloc, stream, place, patience)
+    ) -> Result<AcceptedClient, AllocError> {
+        AcceptedClient::new(alloc, stream, place, patience)
     }
 
-    fn send<R: Wait>(&mut self, rt: &R, client: Client) -> bool {
+    fn send<R: Wait>(&mut self, rt: &R, client: AcceptedClient) -> bool {
         self.clients.send(rt, client).is_ok()
     }
 }

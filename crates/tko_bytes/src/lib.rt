@@ -3,7 +3,7 @@
 //! - `NoMemory`: memory ran out.
 //! - `number`: the number that a word of decimal digits writes.
 //! - `split_line`, `content`, `first_line`: lines, which end with LF or CR LF.
-//! - `split_word`, `is_word`, `Words`: words, which any number of spaces separate.
+//! - `split_word`, `is_word`, `SpacedWords`: words, which any number of spaces separate.
 //! - `Fields`: fields, which single spaces separate.
 //! - `append`: puts several pieces at the end of a buffer, or none of them; `is_joined`: whether
 //!   bytes are several pieces; `clear`: empties a buffer.
@@ -21,7 +21,7 @@ pub use fields::Fields;
 pub use lines::{content, first_line, split_line};
 pub use memory::NoMemory;
 pub use numbers::number;
-pub use words::{Words, is_word, split_word};
+pub use words::{SpacedWords, is_word, split_word};
 
 #[cfg(test)]
 mod tests;

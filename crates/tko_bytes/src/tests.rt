@@ -69,7 +69,7 @@ fn words_and_fields(rt: HostRuntime) -> Result<(), Fail> {
     assert_eq!(rt; split_word(b"  "), None);
     assert!(rt; is_word(b" END ", b"END"));
     assert!(rt; !is_word(b"END x", b"END"));
-    let mut words = Words::of(b" a  bc ");
+    let mut words = SpacedWords::of(b" a  bc ");
     for wanted in [b"a".as_slice(), b"bc".as_slice()] {
         assert!(rt; !words.is_done());
         assert_eq!(rt; words.next(), Some(wanted));

@@ -7,11 +7,11 @@ use std::marker::Model;
 
 /// The words of a line that are still to be read. Contracts see the list of them.
 #[derive(Drop)]
-pub struct Words<'a> {
+pub struct SpacedWords<'a> {
     rest: &'a [u8],
 }
 
-impl<'a> Model for Words<'a> {
+impl<'a> Model for SpacedWords<'a> {
     ghost use Rattle.std.specs.Prelude.{List, ℕ};
     ghost use Rattle.tko_bytes.specs.Words.{words};
 
@@ -20,12 +20,12 @@ impl<'a> Model for Words<'a> {
     ghost view = { λ w. words w.rest.now };
 }
 
-impl<'a> Words<'a> {
+impl<'a> SpacedWords<'a> {
     /// All words of a line.
-    pub fn of(line: &'a [u8]) -> Words<'a>
+    pub fn of(line: &'a [u8]) -> SpacedWords<'a>
         ensures { result ≡ words line.now }
     {
-        Words { rest: line }
+        SpacedWords { rest: line }
     }
 
     /// The next word, if there is one.

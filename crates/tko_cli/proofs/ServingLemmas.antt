@@ -5,17 +5,17 @@ use Rattle.tko_model.specs.Settings.{Settings}
 use Rattle.tko_model.specs.declared.settings.SettingsFault.{SettingsFault}
 use Rattle.tko_server.specs.Announcing.{After, Before, IsAnnounced}
 use Rattle.tko_server.specs.Runs.{tracker_settings}
-use Rattle.tko_server.specs.declared.run_fault.RunFault.{RunFault as ServerFault}
-use Rattle.tko_server.specs.declared.run_fault.RunFault.TheVariants as server_fault
+use Rattle.tko_server.specs.declared.run_fault.ServerRunFault.{ServerRunFault as ServerFault}
+use Rattle.tko_server.specs.declared.run_fault.ServerRunFault.TheVariants as server_fault
 use Rattle.tko_server.specs.declared.running.Options.{Options as Server}
 use Rattle.tko_commands.proofs.GroupedLemmas.{no_fault}
 use Rattle.tko_commands.specs.declared.fault.Fault.{Fault}
 use Rattle.tko_commands.specs.declared.fault.Fault.TheVariants as fault
-use Rattle.tko_cli.specs.Planned.{IsPlanned, IsServerOf}
+use Rattle.tko_cli.specs.Planned.{IsServePlan, IsServerOf}
 use Rattle.tko_cli.specs.Announcements.{HasNotPrinted, HasPrinted, ready_text}
-use Rattle.tko_cli.specs.Serving.{HasFailed, HasNoListener, HasNoMetrics, HasPlan, IsExplained, IsNamed, IsRunnable, IsUnprepared, NotReady, NotWritten, PreparedFails, Ready, ServeFails, TotalsFail, fault_of_server}
+use Rattle.tko_cli.specs.Serving.{HasNoListener, HasNoMetrics, HasPlan, HasServeFailed, IsExplained, IsNamed, IsRunnable, IsUnprepared, NotReady, NotWritten, PreparedFails, Ready, ServeFails, TotalsFail, fault_of_server}
 use Rattle.tko_cli.specs.declared.announcement.Announcement.{Announcement}
-use Rattle.tko_cli.specs.declared.planned.Plan.{Plan}
+use Rattle.tko_cli.specs.declared.planned.ServePlan.{ServePlan}
 use Rattle.tko_cli.specs.declared.prepared.Prepared.{Prepared}
 use Rattle.tko_options.specs.declared.serve_options.ServeOptions.{ServeOptions}
 
@@ -31,8 +31,8 @@ from_err (Ok value) is next = tt
 from_err (Err error) is next = next error is
 
 -- the tracker of a planned server has the plan's settings
-settings_of_plan : (options : ServeOptions) (plan : Plan) (open_files : Option ℕ) (server : Server)
-    → IsPlanned options plan → IsServerOf plan options open_files server
+settings_of_plan : (options : ServeOptions) (plan : ServePlan) (open_files : Option ℕ) (server : Server)
+    → IsServePlan options plan → IsServerOf plan options open_files server
     → tracker_settings server ≡ plan.settings
 settings_of_plan options plan open_files server planned is = rw (is.settings, is.config, planned.settings) refl
 
@@ -172,7 +172,7 @@ prepared_fails takes failures options from to fault.Metrics plan is = absurd is
 
 -- how such a server has failed
 pub has_failed : {O : Type 0} (takes : O → List ℕ → O → Type 0) (failures : O → ℕ) (from to : O) (reason : Fault)
-    → PreparedFails takes failures from to reason → HasFailed takes failures from to
+    → PreparedFails takes failures from to reason → HasServeFailed takes failures from to
 has_failed takes failures from to fault.Write is = NotWritten is
 has_failed takes failures from to fault.Accept is = Ready is
 has_failed takes failures from to fault.Memory (inl same) = NotReady same

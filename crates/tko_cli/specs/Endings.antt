@@ -6,11 +6,11 @@ use Rattle.tko_commands.specs.Done.{HasCheckedAll, HasDried}
 use Rattle.tko_commands.specs.FaultLines.{IsFaultWritten, IsReasonTold}
 use Rattle.tko_commands.specs.NotDone.{HasNotChecked, HasNotDried}
 use Rattle.tko_commands.specs.Reasons.{IsFileFault, IsLoadedServer}
-use Rattle.tko_commands.specs.Replays.{ReplayFails, Replays}
+use Rattle.tko_commands.specs.Replays.{ReplayFails, ReplaysSchedule}
 use Rattle.tko_commands.specs.declared.fault.Fault.{Fault}
 use Rattle.tko_commands.specs.declared.fault.Fault.TheVariants as fault
 use Rattle.tko_cli.specs.Notices.{HasNotices}
-use Rattle.tko_cli.specs.Serving.{HasFailed, HasServed, ServeFails}
+use Rattle.tko_cli.specs.Serving.{HasServeFailed, HasServedToEnd, ServeFails}
 use Rattle.tko_options.specs.Asked.{IsReadFrom, IsRefusal}
 use Rattle.tko_options.specs.declared.asked.Asked.TheVariants as asked
 use Rattle.tko_options.specs.declared.check_options.CheckOptions.{CheckOptions}
@@ -20,12 +20,12 @@ use Rattle.tko_options.specs.declared.refusal.Refusal.TheVariants as refusal
 use Rattle.tko_options.specs.declared.serve_options.ServeOptions.{ServeOptions}
 
 -- the ends of a command: what it reads, what it writes, and where it writes faults and notices
-pub record Ends (I O F : Type 0) : Type 0 where
+pub record CommandEnds (I O F : Type 0) : Type 0 where
   pub input : I
   pub output : O
   pub faults : F
 
-abbrev pub ends : {I O F : Type 0} → I → O → F → Ends I O F
+abbrev pub ends : {I O F : Type 0} → I → O → F → CommandEnds I O F
 ends input output faults = record { input = input; output = output; faults = faults }
 
 -- a server of these options, with the text of their configuration's file if they name one, ran to
@@ -34,7 +34,7 @@ pub record HasServedFor {O F : Type 0} (outlet : OutletGhosts O) (notes : Outlet
     (options : ServeOptions) (old new : O × F) : Type 0 where
   pub loaded : ServeOptions
   pub text : IsLoadedServer options loaded
-  pub served : HasServed outlet.takes loaded old.0 new.0
+  pub served : HasServedToEnd outlet.takes loaded old.0 new.0
   pub noted : HasNotices notes.takes notes.failures old.1 new.1
 
 -- the text that is to be shown in place of a command
@@ -44,23 +44,25 @@ answer_in _ = None
 
 -- the command that these words ask for was done, and no fault was written; or a text was, as the
 -- help, where clap takes no command from the words
-pub data IsDone {I O F : Type 0} (inlet : InletGhosts I) (outlet : OutletGhosts O)
-    (notes : OutletGhosts F) (words : List (List ℕ)) (old new : Ends I O F) : Type 0 where
+pub data IsCommandDone {I O F : Type 0} (inlet : InletGhosts I) (outlet : OutletGhosts O)
+    (notes : OutletGhosts F) (words : List (List ℕ)) (old new : CommandEnds I O F) : Type 0 where
   Dried : (options : DryOptions) → IsReadFrom words (asked.Dry options)
       → HasDried inlet outlet options (old.input, old.output) (new.input, new.output)
-      → new.faults ≡ old.faults → IsDone inlet outlet notes words old new
+      → new.faults ≡ old.faults → IsCommandDone inlet outlet notes words old new
   Replayed : IsReadFrom words asked.Replay
-      → Replays inlet.gives inlet.is_ended outlet.takes old.input old.output new.input new.output
-      → new.faults ≡ old.faults → IsDone inlet outlet notes words old new
+      → ReplaysSchedule inlet.gives inlet.is_ended outlet.takes old.input old.output
+      new.input new.output
+      → new.faults ≡ old.faults → IsCommandDone inlet outlet notes words old new
   Served : (options : ServeOptions) → IsReadFrom words (asked.Serve options)
       → HasServedFor outlet notes options (old.output, old.faults) (new.output, new.faults)
-      → new.input ≡ old.input → IsDone inlet outlet notes words old new
+      → new.input ≡ old.input → IsCommandDone inlet outlet notes words old new
   Checked : (options : CheckOptions) → IsReadFrom words (asked.Check options)
       → HasCheckedAll outlet.takes options old.output new.output
-      → new.input ≡ old.input → new.faults ≡ old.faults → IsDone inlet outlet notes words old new
+      → new.input ≡ old.input → new.faults ≡ old.faults
+      → IsCommandDone inlet outlet notes words old new
   Shown : (shown : Refusal) (text : List ℕ) → IsRefusal words shown → answer_in shown ≡ Some text
       → outlet.takes old.output text new.output → new.input ≡ old.input
-      → new.faults ≡ old.faults → IsDone inlet outlet notes words old new
+      → new.faults ≡ old.faults → IsCommandDone inlet outlet notes words old new
 
 -- by this fault a server of these options ended: the file of their configuration cannot be read, or
 -- it failed with the text of that file
@@ -103,6 +105,7 @@ pub data IsFaultTold {O F : Type 0} (takes : O → List ℕ → O → Type 0) (f
   where
     AfterReason : IsReasonTold notes faults came old new
         → IsFaultTold takes failures notes faults came from to old new
-    AfterNotices : (middle : F) (reason : Fault) → came reason → HasFailed takes failures from to
+    AfterNotices : (middle : F) (reason : Fault) → came reason
+        → HasServeFailed takes failures from to
         → HasNotices notes faults old middle → IsFaultWritten notes faults reason middle new
         → IsFaultTold takes failures notes faults came from to old new

@@ -18,7 +18,7 @@ use Rattle.tko_commands.specs.Grouped.{grouped}
 use Rattle.tko_commands.specs.declared.fault.Fault.{Fault}
 use Rattle.tko_commands.specs.declared.fault.Fault.TheVariants as fault
 use Rattle.tko_commands.specs.declared.listen_fault.ListenFault.TheVariants as listen_fault
-use Rattle.tko_cli.specs.declared.planned.Plan.{Plan}
+use Rattle.tko_cli.specs.declared.planned.ServePlan.{ServePlan}
 use Rattle.tko_options.specs.declared.serve_options.ServeOptions.{ServeOptions}
 
 -- how long the server waits for a client
@@ -48,7 +48,7 @@ plan_settings options config = grouped config (serve_settings options (length co
 
 -- the configuration of the JSON, settings in their ranges, and delays in theirs; what it listens on
 -- is an address
-pub record IsPlanned (options : ServeOptions) (plan : Plan) : Type 0 where
+pub record IsServePlan (options : ServeOptions) (plan : ServePlan) : Type 0 where
   pub config : Means (string_bytes options.config) plan.config
   pub settings : plan.settings ≡ plan_settings options plan.config
   pub within : IsWithinRanges plan.settings
@@ -59,7 +59,7 @@ pub record IsPlanned (options : ServeOptions) (plan : Plan) : Type 0 where
 -- a server of this plan, with the time limits, the limit of clients, the number of keys at once,
 -- how these are sent, and the number of connections that the options name, in a process that may
 -- have `allowed` files open
-pub record IsServerOf (plan : Plan) (options : ServeOptions) (allowed : Option ℕ)
+pub record IsServerOf (plan : ServePlan) (options : ServeOptions) (allowed : Option ℕ)
     (server : Server) : Type 0 where
   pub config : server.config ≡ plan.config
   pub settings : server.settings ≡ plan.settings

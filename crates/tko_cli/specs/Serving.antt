@@ -2,33 +2,33 @@
 use Rattle.std.specs.Prelude.{◌≡◌, ◌<◌, ◌⊎◌, ℕ, true, IfSome, List, Option, bytes_eq, codes, is_some, string_bytes}
 use Rattle.tko_cli.specs.Announcements.{ready_text}
 use Rattle.tko_cli.specs.Notices.{HasNotices}
-use Rattle.tko_cli.specs.Planned.{IsPlanned, IsServerOf, NoPlan}
+use Rattle.tko_cli.specs.Planned.{IsServePlan, IsServerOf, NoPlan}
 use Rattle.tko_cli.specs.Totals.{totals_text}
 use Rattle.tko_commands.specs.declared.fault.Fault.{Fault}
 use Rattle.tko_commands.specs.declared.fault.Fault.TheVariants as fault
 use Rattle.tko_commands.specs.declared.listen_fault.ListenFault.{ListenFault}
 use Rattle.tko_commands.specs.declared.listen_fault.ListenFault.TheVariants as listen_fault
-use Rattle.tko_cli.specs.declared.planned.Plan.{Plan}
+use Rattle.tko_cli.specs.declared.planned.ServePlan.{ServePlan}
 use Rattle.tko_cli.specs.declared.prepared.Prepared.{Prepared}
 use Rattle.tko_model.specs.Ranges.{IsWithinRanges}
 use Rattle.tko_server.specs.Beside.{IsLogOf, IsMeterOf}
-use Rattle.tko_server.specs.Closing.{HasEnded}
+use Rattle.tko_server.specs.Closing.{HasServerEnded}
 use Rattle.tko_server.specs.Runs.{tracker_settings}
-use Rattle.tko_server.specs.declared.run_fault.RunFault.{RunFault}
-use Rattle.tko_server.specs.declared.run_fault.RunFault.TheVariants as server_fault
+use Rattle.tko_server.specs.declared.run_fault.ServerRunFault.{ServerRunFault}
+use Rattle.tko_server.specs.declared.run_fault.ServerRunFault.TheVariants as server_fault
 use Rattle.tko_server.specs.declared.running.Ended.{Ended}
 use Rattle.tko_server.specs.declared.running.Options.{Options as Server}
 use Rattle.tko_options.specs.declared.serve_options.ServeOptions.{ServeOptions}
 
 -- the options name what to run on
 pub record HasPlan (options : ServeOptions) : Type 0 where
-  pub plan : Plan
-  pub planned : IsPlanned options plan
+  pub plan : ServePlan
+  pub planned : IsServePlan options plan
 
 -- the server is one that the options name
 pub record IsNamed (options : ServeOptions) (server : Server) : Type 0 where
-  pub plan : Plan
-  pub planned : IsPlanned options plan
+  pub plan : ServePlan
+  pub planned : IsServePlan options plan
   pub open_files : Option ℕ
   pub of_plan : IsServerOf plan options open_files server
 
@@ -45,13 +45,13 @@ pub record HasBeside (options : ServeOptions) (prepared : Prepared) : Type 0 whe
 pub record HasTotals {O : Type 0} (takes : O → List ℕ → O → Type 0) (server : Server)
     (from to : O) : Type 0 where
   pub ended : Ended
-  pub ran : HasEnded server ended
+  pub ran : HasServerEnded server ended
   pub middle : O
   pub ready : takes from ready_text middle
   pub totals : takes middle (totals_text ended.totals.counts) to
 
 -- a server that the options name ran to its end, and its totals went out
-pub record HasServed {O : Type 0} (takes : O → List ℕ → O → Type 0) (options : ServeOptions)
+pub record HasServedToEnd {O : Type 0} (takes : O → List ℕ → O → Type 0) (options : ServeOptions)
     (from to : O) : Type 0 where
   pub server : Server
   pub named : IsNamed options server
@@ -62,7 +62,7 @@ abbrev pub IsRunnable : Prepared → Type 0
 IsRunnable prepared = IsWithinRanges (tracker_settings prepared.server)
 
 -- which fault of the program the server's is
-abbrev pub fault_of_server : RunFault → Fault
+abbrev pub fault_of_server : ServerRunFault → Fault
 fault_of_server (server_fault.Settings name) = fault.Settings name
 fault_of_server server_fault.Memory = fault.Memory
 fault_of_server server_fault.Announce = fault.Write
@@ -70,17 +70,17 @@ fault_of_server server_fault.Accept = fault.Accept
 
 -- a server that was ready to run ended by a fault: the outlet failed, or `ready` went out and
 -- nothing else, or nothing at all
-pub data HasFailed {O : Type 0} (takes : O → List ℕ → O → Type 0) (failures : O → ℕ)
+pub data HasServeFailed {O : Type 0} (takes : O → List ℕ → O → Type 0) (failures : O → ℕ)
     (from to : O) : Type 0 where
-  NotWritten : failures from < failures to → HasFailed takes failures from to
-  Ready : takes from ready_text to → HasFailed takes failures from to
-  NotReady : to ≡ from → HasFailed takes failures from to
+  NotWritten : failures from < failures to → HasServeFailed takes failures from to
+  Ready : takes from ready_text to → HasServeFailed takes failures from to
+  NotReady : to ≡ from → HasServeFailed takes failures from to
 
 -- nothing was noted, or a server that was ready to run failed and there are notices
 pub data IsSilentOrNoted {O F : Type 0} (takes : O → List ℕ → O → Type 0) (failures : O → ℕ)
     (notes : F → List ℕ → F → Type 0) (faults : F → ℕ) (from to : O) (old new : F) : Type 0 where
   Silent : new ≡ old → IsSilentOrNoted takes failures notes faults from to old new
-  WithNotices : HasFailed takes failures from to → HasNotices notes faults old new
+  WithNotices : HasServeFailed takes failures from to → HasNotices notes faults old new
       → IsSilentOrNoted takes failures notes faults from to old new
 
 -- a line of its own says why there is this fault
@@ -90,18 +90,18 @@ IsExplained (fault.Listen cause) = Unit {0}
 IsExplained other = ⊥
 
 -- the system refuses an address
-abbrev pub IsRefused : ListenFault → Type 0
-IsRefused (listen_fault.System words) = Unit {0}
-IsRefused listen_fault.NoAddress = ⊥
+abbrev pub IsAddressRefused : ListenFault → Type 0
+IsAddressRefused (listen_fault.System words) = Unit {0}
+IsAddressRefused listen_fault.NoAddress = ⊥
 
 -- the system refuses the address, or memory ran out
 abbrev pub HasNoListener : Fault → Type 0
-HasNoListener (fault.Listen cause) = IsRefused cause
+HasNoListener (fault.Listen cause) = IsAddressRefused cause
 HasNoListener fault.Memory = Unit {0}
 HasNoListener other = ⊥
 
 -- `ready` went out and nothing else
-pub record IsReady {O : Type 0} (takes : O → List ℕ → O → Type 0) (options : ServeOptions)
+pub record IsOnlyReady {O : Type 0} (takes : O → List ℕ → O → Type 0) (options : ServeOptions)
     (from to : O) : Type 0 where
   pub plan : HasPlan options
   pub ready : takes from ready_text to
@@ -116,7 +116,7 @@ HasNoMetrics options _ = ⊥
 -- nothing can listen where they ask for metrics, or memory ran out
 abbrev pub IsUnprepared : ServeOptions → Fault → Type 0
 IsUnprepared options (fault.Listen cause) =
-    NoPlan options (fault.Listen cause) ⊎ (HasPlan options × IsRefused cause)
+    NoPlan options (fault.Listen cause) ⊎ (HasPlan options × IsAddressRefused cause)
 IsUnprepared options fault.Metrics = HasPlan options × HasNoMetrics options fault.Metrics
 IsUnprepared options fault.Write = ⊥
 IsUnprepared options fault.Accept = ⊥
@@ -143,10 +143,11 @@ module _ {O : Type 0} (takes : O → List ℕ → O → Type 0) (failures : O �
   -- failed; accepting failed after `ready`; or memory ran out, and then `ready` went out or nothing
   abbrev pub ServeFails : ServeOptions → O → O → Fault → Type 0
   ServeFails options from to (fault.Listen cause) =
-      (NoPlan options (fault.Listen cause) ⊎ (HasPlan options × IsRefused cause)) × (to ≡ from)
+      (NoPlan options (fault.Listen cause) ⊎ (HasPlan options × IsAddressRefused cause))
+      × (to ≡ from)
   ServeFails options from to fault.Metrics =
       HasPlan options × HasNoMetrics options fault.Metrics × (to ≡ from)
   ServeFails options from to fault.Write = failures from < failures to
-  ServeFails options from to fault.Accept = IsReady takes options from to
-  ServeFails options from to fault.Memory = (to ≡ from) ⊎ IsReady takes options from to
+  ServeFails options from to fault.Accept = IsOnlyReady takes options from to
+  ServeFails options from to fault.Memory = (to ≡ from) ⊎ IsOnlyReady takes options from to
   ServeFails options from to reason = NoPlan options reason × (to ≡ from)

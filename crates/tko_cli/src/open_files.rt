@@ -8,7 +8,7 @@ ghost use Rattle.tko_cli.specs.OpenFiles.{limit_in, limit_told, told_in};
 use std::alloc::Global;
 use std::fs::{File, Files};
 use std::io::Read;
-use tko_bytes::{Words, first_line, number};
+use tko_bytes::{SpacedWords, first_line, number};
 
 /// Where the system tells the limits of the process.
 const LIMITS: &str = "/proc/self/limits";
@@ -74,5 +74,5 @@ fn told_in(line: &[u8]) -> Option<&[u8]>
 fn limit_told(line: &[u8]) -> Option<u64>
     ensures { result ≡ limit_told (words line.now) }
 {
-    number(Words::of(line).next()?, u64::MAX)
+    number(SpacedWords::of(line).next()?, u64::MAX)
 }

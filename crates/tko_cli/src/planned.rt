@@ -1,6 +1,6 @@
 //! What `serve` runs on, read from its options before anything is opened.
 ghost use Rattle.std.specs.Prelude.{◌≡◌, IfOk, IfErr};
-ghost use Rattle.tko_cli.specs.Planned.{IsPlanned, IsServerOf, NoPlan, serve_grouping, serve_keys, serve_patience};
+ghost use Rattle.tko_cli.specs.Planned.{IsServePlan, IsServerOf, NoPlan, serve_grouping, serve_keys, serve_patience};
 
 use std::alloc::Global;
 use tko_commands::{Fault, ListenFault, settings_over};
@@ -13,13 +13,13 @@ use tko_server::Patience;
 
 /// What the options of `serve` name.
 #[derive(Drop)]
-pub(crate) struct Plan {
+pub(crate) struct ServePlan {
     pub config: Config,
     pub settings: Settings,
     pub delays: Delays,
 }
 
-impl Plan {
+impl ServePlan {
     /// What a server is started with, in a process that may have `open_files` files open.
     pub fn server(self, options: &ServeOptions, open_files: Option<u64>) -> tko_server::Options
         ensures { IsServerOf self options.now open_files result }
@@ -70,8 +70,8 @@ fn patience_of(options: &ServeOptions) -> Patience
 }
 
 /// Reads what the options name, in the order configuration, settings, delays, address.
-pub(crate) fn plan_of(alloc: Global, options: &ServeOptions) -> Result<Plan, Fault>
-    ensures ok { IfOk result (IsPlanned options.now) }
+pub(crate) fn plan_of(alloc: Global, options: &ServeOptions) -> Result<ServePlan, Fault>
+    ensures ok { IfOk result (IsServePlan options.now) }
     ensures err { IfErr result (NoPlan options.now) }
 {
     let config = Config::read(alloc, options.config.as_bytes())?;
@@ -82,7 +82,7 @@ pub(crate) fn plan_of(alloc: Global, options: &ServeOptions) -> Result<Plan, Fau
     if !is_address(options.listen.as_bytes()) {
         return Err(Fault::Listen(ListenFault::NoAddress));
     }
-    Ok(Plan {
+    Ok(ServePlan {
         config,
         settings,
         delays,

@@ -1,8 +1,8 @@
 //! From the arguments to the status.
 ghost use Rattle.std.specs.Prelude.{◌≡◌, ◌<◌, ◌≤◌, IfErr, OnOk, map, string_bytes};
-ghost use Rattle.tko_cli.specs.Endings.{HasNotServed, HasServedFor, IsDone, IsFaultTold, IsNotDone, ends};
+ghost use Rattle.tko_cli.specs.Endings.{HasNotServed, HasServedFor, IsCommandDone, IsFaultTold, IsNotDone, ends};
 ghost use Rattle.tko_cli.specs.Notices.{HasNotices};
-ghost use Rattle.tko_cli.specs.Serving.{HasServed, ServeFails};
+ghost use Rattle.tko_cli.specs.Serving.{HasServedToEnd, ServeFails};
 
 use crate::serving::serve;
 use std::alloc::Global;
@@ -35,7 +35,7 @@ pub fn command<
     F: Outlet,
 >(rt: &R, alloc: Global, words: &[String], input: &mut I, output: &mut O, faults: &mut F) -> u8
     ensures status { result ≤ 2 }
-    ensures done { result ≡ 0 → IsDone I.Inlet O.Outlet F.Outlet (map string_bytes words.now)
+    ensures done { result ≡ 0 → IsCommandDone I.Inlet O.Outlet F.Outlet (map string_bytes words.now)
         (ends input.old output.old faults.old) (ends input.new output.new faults.new) }
     ensures fault { result ≡ 1 → IsFaultTold O.takes O.failures F.takes F.failures
         (IsNotDone I.Inlet O.Outlet (map string_bytes words.now)
@@ -97,7 +97,7 @@ fn serve_loaded<
     F: Outlet,
 >(rt: &R, alloc: Global, options: &ServeOptions, output: &mut O, faults: &mut F) -> u8
     ensures status { result ≤ 1 }
-    ensures done { result ≡ 0 → HasServed O.takes options.now output.old output.new }
+    ensures done { result ≡ 0 → HasServedToEnd O.takes options.now output.old output.new }
     ensures noted { result ≡ 0 → HasNotices F.takes F.failures faults.old faults.new }
     ensures fault { result ≡ 1 → IsFaultTold O.takes O.failures F.takes F.failures
         (ServeFails O.takes O.failures options.now output.old output.new)

@@ -2,11 +2,11 @@
 ghost use Rattle.std.specs.Prelude.{◌≡◌, ◌↔◌, Err, Some, IfErr, IfOk, OnErr, OnOk};
 ghost use Rattle.tko_cli.specs.Announcements.{IsReadyWritten};
 ghost use Rattle.tko_cli.specs.Notices.{HasNotices};
-ghost use Rattle.tko_cli.specs.Serving.{HasServed, HasTotals, IsExplained, IsRunnable, IsSilentOrNoted, PreparedFails, ServeFails, TotalsFail, fault_of_server};
+ghost use Rattle.tko_cli.specs.Serving.{HasServedToEnd, HasTotals, IsExplained, IsRunnable, IsSilentOrNoted, PreparedFails, ServeFails, TotalsFail, fault_of_server};
 ghost use Rattle.tko_cli.specs.Totals.{totals_text};
 ghost use Rattle.tko_model.specs.Ranges.{first_fault};
 ghost use Rattle.tko_server.specs.Announcing.{IsAnnounced};
-ghost use Rattle.tko_server.specs.Closing.{HasEnded};
+ghost use Rattle.tko_server.specs.Closing.{HasServerEnded};
 ghost use Rattle.tko_server.specs.Runs.{tracker_settings};
 
 use crate::announcement::{Announcement, give_back};
@@ -23,7 +23,7 @@ use tko_desk::Totals;
 use tko_io::{IoRuntime, Outlet};
 use tko_model::SettingsFault;
 use tko_options::{Mode, ServeOptions};
-use tko_server::{Announce, Ended, RunFault, WorkerReport, run_events, run_metered};
+use tko_server::{Announce, Ended, ServerRunFault, WorkerReport, run_events, run_metered};
 
 /// Serves clients over TCP until the last of the connections has ended, and then prints the totals.
 /// `ready` is printed once clients can connect: when each worker has asked for its first one.
@@ -47,7 +47,7 @@ pub(crate) fn serve<
     output: &mut O,
     faults: &mut F,
 ) -> Result<(), Fault>
-    ensures ok { OnOk result (HasServed O.takes options.now output.old output.new) }
+    ensures ok { OnOk result (HasServedToEnd O.takes options.now output.old output.new) }
     ensures err { IfErr result (ServeFails O.takes O.failures options.now output.old output.new) }
     ensures noted { OnOk result (HasNotices F.takes F.failures faults.old faults.new) }
     ensures told { OnErr result (IsSilentOrNoted O.takes O.failures F.takes F.failures
@@ -91,10 +91,10 @@ fn run_prepared<
 fn run_announced<
     R: IoRuntime<Listener = TcpListener> + Threads + Sync + Copy + Send + 'static + Eprint,
     O: Outlet,
->(rt: &R, alloc: Global, prepared: Prepared, output: &mut O) -> Result<Ended, RunFault>
+>(rt: &R, alloc: Global, prepared: Prepared, output: &mut O) -> Result<Ended, ServerRunFault>
     requires { IsRunnable prepared }
     ensures ok { OnOk result (IsReadyWritten O.takes O.failures output.old output.new) }
-    ensures ended { IfOk result (HasEnded prepared.server) }
+    ensures ended { IfOk result (HasServerEnded prepared.server) }
     ensures err { IfErr result (λ cause.
         PreparedFails O.takes O.failures output.old output.new (fault_of_server cause)) }
 {
@@ -109,10 +109,10 @@ fn run_announced<
 fn run_in_mode<
     R: IoRuntime<Listener = TcpListener> + Threads + Sync + Copy + Send + 'static + Eprint,
     A: Announce + Drop,
->(rt: &R, alloc: Global, prepared: Prepared, announcement: A) -> (A, Result<Ended, RunFault>)
+>(rt: &R, alloc: Global, prepared: Prepared, announcement: A) -> (A, Result<Ended, ServerRunFault>)
     ensures settings { (fault : SettingsFault) → (result.1 ≡ Err (RunFault.Settings fault))
         ↔ (first_fault (tracker_settings prepared.server) ≡ Some fault) }
-    ensures ended { IfOk result.1 (HasEnded prepared.server) }
+    ensures ended { IfOk result.1 (HasServerEnded prepared.server) }
     ensures announced { IsAnnounced A.announces A.fails announcement result.0 result.1 }
 {
     let Prepared {
@@ -164,14 +164,14 @@ fn write_totals<R: IoRuntime, O: Outlet>(
 }
 
 /// Which fault of the program the server's is.
-fn fault_of_server(cause: RunFault) -> Fault
+fn fault_of_server(cause: ServerRunFault) -> Fault
     ensures { result ≡ fault_of_server cause }
 {
     match cause {
-        RunFault::Settings(setting) => Fault::Settings(setting),
-        RunFault::Memory => Fault::Memory,
-        RunFault::Announce => Fault::Write,
-        RunFault::Accept => Fault::Accept,
+        ServerRunFault::Settings(setting) => Fault::Settings(setting),
+        ServerRunFault::Memory => Fault::Memory,
+        ServerRunFault::Announce => Fault::Write,
+        ServerRunFault::Accept => Fault::Accept,
     }
 }
 

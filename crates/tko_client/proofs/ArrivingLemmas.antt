@@ -21,10 +21,10 @@ use Rattle.tko_keys.specs.KeysActs as act
 use Rattle.tko_keys.specs.KeysDriven.{AreUnderWay, HasArrived, IsDueAt, IsSentAt}
 use Rattle.tko_keys.specs.KeysDriven as driven
 use Rattle.tko_keys.specs.KeysState.{KeySend, KeySlot, KeysState, awaited, first_send, keys_first, without_first}
-use Rattle.tko_keys.specs.Lines.{key_in, outcome_by}
+use Rattle.tko_keys.specs.Lines.{key_in_request, outcome_by}
 use Rattle.tko_client.specs.Answerings.{AreSettled}
-use Rattle.tko_client.specs.Counts.{AreCounted, IsCounted}
-use Rattle.tko_client.specs.Keys.{DoesForKeys, HasStoppedAs, HaveCome, HaveGoneOn, TakesAt}
+use Rattle.tko_client.specs.Counts.{AreSendsCounted, IsSendCounted}
+use Rattle.tko_client.specs.Keys.{DoesForKeys, HasStoppedAs, HaveActedOnOutcome, HaveGoneOn, TakesAt}
 use Rattle.tko_client.specs.Steps.{HasStayed, client_ghosts}
 use Rattle.tko_client.proofs.AskLemmas.{due_between, due_left, first_server, servers_of}
 use Rattle.tko_client.proofs.CountLemmas.{all_stay, counted, uncounted}
@@ -37,8 +37,8 @@ asked_all config slots server [] each = refl
 asked_all config slots server (place ∷ places) each =
     let is = All-head (λ (it : ℕ). IsDueAt config slots (driven.due it server)) place places each in
     let more = asked_all config slots server places (All-tail (λ (it : ℕ). IsDueAt config slots (driven.due it server)) place places each) in
-    let one : length (act.asked_at place (slice_get slots place)) ≡ 1 = ap (λ o. length (act.asked_at place o)) is.at in
-    omega (arith, one, more, length-append (act.asked_at place (slice_get slots place)) (asked_keys slots places))
+    let one : length (act.asked_key_at place (slice_get slots place)) ≡ 1 = ap (λ o. length (act.asked_key_at place o)) is.at in
+    omega (arith, one, more, length-append (act.asked_key_at place (slice_get slots place)) (asked_keys slots places))
 
 -- so many keys are asked for as the request has places
 places_asked : (config : Configuration) (server : ℕ) (keys : KeysState) (send : KeySend) → AreUnderWay config keys → first_send server keys.sends ≡ Some send
@@ -66,12 +66,12 @@ left_takes server old mid new left is same takes = λ n.
 module _ {H T C : Type 0} (health : HealthGhosts H) (trails : TrailsGhosts T) where
   -- what came for each of these keys was counted
   parts_counted : (server : ℕ) (shared : Bool) (came : Outcome) (asked : List AskedKey) (parts mid : Parts H (List ℕ) T C) → is_sent came ≡ true
-      → Lead IsCounted parts (replicate (length asked) server) mid
+      → Lead IsSendCounted parts (replicate (length asked) server) mid
       → Lead (Interacts (client_ghosts health trails)) parts (map (came_with server (λ key. Ok (outcome_by shared key came))) asked) mid
   parts_counted server shared came [] parts mid sent same = same
   parts_counted server shared came (one ∷ asked) parts mid sent (next, first, rest) = (
     next,
-    counted health trails server one.request (outcome_by shared (key_in one.request) came) parts next (part_sent shared (key_in one.request) came ∙ sent) first,
+    counted health trails server one.request (outcome_by shared (key_in_request one.request) came) parts next (part_sent shared (key_in_request one.request) came ∙ sent) first,
     parts_counted server shared came asked next mid sent rest,
   )
 
@@ -83,15 +83,15 @@ module _ {H T C : Type 0} (health : HealthGhosts H) (trails : TrailsGhosts T) wh
       (parts, uncounted health trails server one.request parts room, parts_uncounted server asked parts room)
 
   came_counted : (config : Configuration) (server : ℕ) (came : Outcome) (keys : KeysState) (send : KeySend) (parts mid : Parts H (List ℕ) T C) → AreUnderWay config keys
-      → first_send server keys.sends ≡ Some send → is_sent came ≡ true → IfSome (keys_first server keys) (λ count. AreCounted server count parts mid)
+      → first_send server keys.sends ≡ Some send → is_sent came ≡ true → IfSome (keys_first server keys) (λ count. AreSendsCounted server count parts mid)
       → Gains (Interacts (client_ghosts health trails)) parts (came_parts came keys.slots send) mid
   came_counted config server came keys send parts mid ready first sent counts =
       let asked = asked_keys keys.slots send.places in
-      let many : AreCounted server (length send.places) parts mid =
-      subst (λ o. IfSome (option_map (λ (s : KeySend). length s.places) o) (λ count. AreCounted server count parts mid)) first counts in
-      let each : Lead IsCounted parts (replicate (length asked) send.server) mid =
-      subst (λ n. Lead IsCounted parts (replicate n send.server) mid) (sym (places_asked config server keys send ready first))
-      (subst (λ n. Lead IsCounted parts (replicate (length send.places) n) mid) (sym (first_server server keys.sends send first)) many.leads) in
+      let many : AreSendsCounted server (length send.places) parts mid =
+      subst (λ o. IfSome (option_map (λ (s : KeySend). length s.places) o) (λ count. AreSendsCounted server count parts mid)) first counts in
+      let each : Lead IsSendCounted parts (replicate (length asked) send.server) mid =
+      subst (λ n. Lead IsSendCounted parts (replicate n send.server) mid) (sym (places_asked config server keys send ready first))
+      (subst (λ n. Lead IsSendCounted parts (replicate (length send.places) n) mid) (sym (first_server server keys.sends send first)) many.leads) in
       record { leads = parts_counted send.server (is_some send.line) came asked parts mid sent each }
 
   -- the keys of a request for which memory ran out
@@ -104,10 +104,10 @@ module _ {H T C : Type 0} (health : HealthGhosts H) (trails : TrailsGhosts T) wh
 
   -- what came of the first request at a server was recorded, and then its keys were taken on
   pub arrived_come : (server : ℕ) (came : Outcome) (old mid new : KeysState) (parts counts after : Parts H (List ℕ) T C) (now : H) (items : List HealthItem)
-      → AreSettled parts.config old → is_sent came ≡ true → IfSome (keys_first server old) (λ count. AreCounted server count parts counts)
+      → AreSettled parts.config old → is_sent came ≡ true → IfSome (keys_first server old) (λ count. AreSendsCounted server count parts counts)
       → HasArrived server came old (map Told items) mid → Gains health.steps counts.backend.health items now
       → HaveGoneOn (client_ghosts health trails) (mid, with_health now counts) (new, after)
-      → HaveCome (client_ghosts health trails) false server (Ok came) (old, parts) (new, after)
+      → HaveActedOnOutcome (client_ghosts health trails) false server (Ok came) (old, parts) (new, after)
   arrived_come server came old mid new parts counts after now items was sent counted_all is told gone =
       let ghosts = client_ghosts {C = C} health trails in
       let sends : Gains (Interacts ghosts) parts (came_parts came old.slots is.send) counts =
@@ -129,7 +129,7 @@ module _ {H T C : Type 0} (health : HealthGhosts H) (trails : TrailsGhosts T) wh
   -- memory ran out for the first request at a server, or before the last one was sent
   pub stopped_come : (unsent : Bool) (server : ℕ) (old mid new : KeysState) (parts after : Parts H (List ℕ) T C) → slice_index parts.backend.links server ≢ most_sends
       → HasStoppedAs unsent server old mid → HaveGoneOn (client_ghosts health trails) (mid, parts) (new, after)
-      → HaveCome (client_ghosts health trails) unsent server (Err (record { sent = false })) (old, parts) (new, after)
+      → HaveActedOnOutcome (client_ghosts health trails) unsent server (Err (record { sent = false })) (old, parts) (new, after)
   stopped_come false server old mid new parts after room is gone =
       let ghosts = client_ghosts {C = C} health trails in
       let first : DoesForKeys ghosts parts.config (old, parts) (came_lost false old.slots is.send ++ []) (mid, parts) =
@@ -160,11 +160,11 @@ module _ {H T C : Type 0} (health : HealthGhosts H) (trails : TrailsGhosts T) wh
 -- what counting sends, and what came of them, leave of the parts
 module _ {H T C : Type 0} {servers : H → ℕ} where
   pub counts_stay : (server : ℕ) (keys : KeysState) (parts counts : Parts H (List ℕ) T C) → IsSome (first_send server keys.sends)
-      → IfSome (keys_first server keys) (λ count. AreCounted server count parts counts) → HasStayed servers parts counts
+      → IfSome (keys_first server keys) (λ count. AreSendsCounted server count parts counts) → HasStayed servers parts counts
   counts_stay server keys parts counts some counted_all =
       let found = some_first (first_send server keys.sends) some in
-      let many : AreCounted server (length found.0.places) parts counts =
-      subst (λ o. IfSome (option_map (λ (s : KeySend). length s.places) o) (λ count. AreCounted server count parts counts)) found.1 counted_all in
+      let many : AreSendsCounted server (length found.0.places) parts counts =
+      subst (λ o. IfSome (option_map (λ (s : KeySend). length s.places) o) (λ count. AreSendsCounted server count parts counts)) found.1 counted_all in
       all_stay (replicate (length found.0.places) server) parts counts many.leads
 
   -- health was told of what came

@@ -15,17 +15,17 @@ use Rattle.tko_session.specs.Outgoing.{AreOutgoing, AreOutgoingIn, outgoing, out
 use Rattle.tko_session.specs.SessionState.{SessionState, fed_state}
 use Rattle.tko_session.specs.Working.{Work, key_in}
 use Rattle.tko_session.specs.Working as work
-use Rattle.tko_port.specs.declared.talking.Stage.TheVariants as stage
-use Rattle.tko_client.specs.declared.client.Course.{Course}
-use Rattle.tko_client.specs.declared.client.Course.TheVariants as course
+use Rattle.tko_port.specs.declared.talking.SessionStage.TheVariants as stage
+use Rattle.tko_client.specs.declared.client.ClientStanding.{ClientStanding}
+use Rattle.tko_client.specs.declared.client.ClientStanding.TheVariants as course
 use Rattle.tko_client.specs.declared.answering.Answering.{Answering}
-use Rattle.tko_client.specs.Answerings.{IsIdle, MayCall, MayCallWith, asked_by, asked_for, asked_with, awaited_by, client_at, waited_by, waited_with}
+use Rattle.tko_client.specs.Answerings.{IsClientIdle, MayCallClient, MayCallWith, asked_by, asked_for, asked_with, awaited_by_client, client_at, waited_by, waited_with}
 use Rattle.tko_client.specs.Clients.{CourseStands, phase_at, stage_of}
 use Rattle.tko_client.proofs.GoingLemmas.{idle_awaits, idle_none}
 use Rattle.tko_client.proofs.TakingLemmas.{sent_awaits, sent_to}
 
 -- one that needs more input is open
-needs_open : (at : Course) → stage_of at ≡ stage.NeedsInput → phase_at at ≡ Open
+needs_open : (at : ClientStanding) → stage_of at ≡ stage.NeedsInput → phase_at at ≡ Open
 needs_open course.Going is = refl
 needs_open course.Waits is = refl
 needs_open course.Full is = refl
@@ -36,7 +36,7 @@ needs_open course.Short is = absurd (let never : ⊥ = cc in never)
 needs_open course.TooLong is = absurd (let never : ⊥ = cc in never)
 
 -- bytes came
-pub fed_act : (config : Configuration) (at : Course) (old new : Answering) (piece : List ℕ) → stage_of at ≡ stage.NeedsInput
+pub fed_act : (config : Configuration) (at : ClientStanding) (old new : Answering) (piece : List ℕ) → stage_of at ≡ stage.NeedsInput
     → new ≡ record old { session = fed_state old.session piece }
     → IsAct config (client_at (phase_at at) old) (life piece [] []) (client_at (phase_at at) new)
 fed_act config at old new piece needs is = act.fed piece (needs_open at needs) refl (ap (client_at (phase_at at)) is)
@@ -94,14 +94,14 @@ awaiting_asked (work.Awaits it) out = refl
 awaiting_asked (work.Ended one) out = absurd out
 awaiting_asked work.HandedOver out = absurd out
 
-pub request_to_is : (it : Answering) (server : ℕ) (request : Request) → it.keys ≡ None → 0 < times_due (awaited_by it) server
+pub request_to_is : (it : Answering) (server : ℕ) (request : Request) → it.keys ≡ None → 0 < times_due (awaited_by_client it) server
     → ((one : OneKey) → key_in it.session.work ≡ Some one → request ≡ one.request) → waited_by it server ≡ Some request
 request_to_is it server request none some is =
     ap (λ k. waited_with k it.session.work server) none
     ∙ asked_is it.session.work request (awaiting_asked it.session.work (sent_awaits it.session.work server (sent_to it server none some))) is
 
 -- whom a client awaits at its stage
-pub stage_awaits : (at : Course) (it : Answering) → CourseStands at it → AwaitsAt (stage_of at) (awaited_by it)
+pub stage_awaits : (at : ClientStanding) (it : Answering) → CourseStands at it → AwaitsAt (stage_of at) (awaited_by_client it)
 stage_awaits course.Going it stands = tt
 stage_awaits course.Waits it stands = stands
 stage_awaits course.Full it stands = idle_awaits it stands
@@ -112,16 +112,16 @@ stage_awaits course.TooLong it stands = idle_awaits it stands
 stage_awaits course.Short it stands = idle_awaits it stands
 
 -- a client that is not over and waits for nothing can be called
-pub may_call : (it : Answering) → IsIdle it → MayCall it
+pub may_call : (it : Answering) → IsClientIdle it → MayCallClient it
 may_call it idle =
     let none = idle_none it idle in subst (λ k. MayCallWith k it.session.work) (sym none.0) none.1
 
-none_due : (it : Answering) (server : ℕ) → IsIdle it → 0 < times_due (awaited_by it) server → ⊥
+none_due : (it : Answering) (server : ℕ) → IsClientIdle it → 0 < times_due (awaited_by_client it) server → ⊥
 none_due it server idle some =
-    let none : times_due (awaited_by it) server ≡ 0 = ap (λ xs. times_due xs server) (idle_awaits it idle) in absurd (omega (arith, none, some))
+    let none : times_due (awaited_by_client it) server ≡ 0 = ap (λ xs. times_due xs server) (idle_awaits it idle) in absurd (omega (arith, none, some))
 
 -- a client that awaits a server is open
-pub waits_open : (at : Course) (it : Answering) (server : ℕ) → CourseStands at it → 0 < times_due (awaited_by it) server → phase_at at ≡ Open
+pub waits_open : (at : ClientStanding) (it : Answering) (server : ℕ) → CourseStands at it → 0 < times_due (awaited_by_client it) server → phase_at at ≡ Open
 waits_open course.Going it server stands some = refl
 waits_open course.Waits it server stands some = refl
 waits_open course.Full it server stands some = refl

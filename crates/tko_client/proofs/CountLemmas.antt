@@ -13,7 +13,7 @@ use Rattle.tko_text.specs.declared.request.Request.{Request}
 use Rattle.tko_reply.specs.Interactions.{Interacts, Made}
 use Rattle.tko_reply.specs.declared.parts.Parts.{Parts}
 use Rattle.tko_reply.specs.declared.trails.Trails.{Ghosts as TrailsGhosts}
-use Rattle.tko_client.specs.Counts.{AreCounted, IsCounted}
+use Rattle.tko_client.specs.Counts.{AreSendsCounted, IsSendCounted}
 use Rattle.tko_client.specs.Staying.{no_change, stayed_on}
 use Rattle.tko_client.specs.Steps.{HasStayed, client_ghosts}
 
@@ -25,7 +25,7 @@ err_ok x y one other is not_other same = cc
 
 module _ {H T C : Type 0} (health : HealthGhosts H) (trails : TrailsGhosts T) where
   -- a send was counted, and came to this
-  pub counted : (server : ℕ) (request : Request) (result : Outcome) (parts mid : Parts H (List ℕ) T C) → is_sent result ≡ true → IsCounted parts server mid
+  pub counted : (server : ℕ) (request : Request) (result : Outcome) (parts mid : Parts H (List ℕ) T C) → is_sent result ≡ true → IsSendCounted parts server mid
       → Interacts (client_ghosts health trails) parts (Made (came_as server request (Ok result))) mid
   counted server request result parts mid sent counts = (
     record {
@@ -54,26 +54,26 @@ module _ {H T C : Type 0} (health : HealthGhosts H) (trails : TrailsGhosts T) wh
   )
 
 module _ {H T C : Type 0} where
-  once : {server : ℕ} (old new : Parts H (List ℕ) T C) → Lead IsCounted old (server ∷ []) new → IsCounted old server new
-  once {server} old new (mid, first, same) = subst (λ p. IsCounted old server p) (sym same) first
+  once : {server : ℕ} (old new : Parts H (List ℕ) T C) → Lead IsSendCounted old (server ∷ []) new → IsSendCounted old server new
+  once {server} old new (mid, first, same) = subst (λ p. IsSendCounted old server p) (sym same) first
 
   -- one more was
-  pub counted_more : {server : ℕ} {old mid new : Parts H (List ℕ) T C} (count : ℕ) → AreCounted server count old mid → IsCounted mid server new → AreCounted server (count + 1) old new
-  counted_more {server} {old} {mid} {new} count counts more = subst (λ sent. Gains IsCounted old sent new) (replicate_more count server) (gains_push counts more)
+  pub counted_more : {server : ℕ} {old mid new : Parts H (List ℕ) T C} (count : ℕ) → AreSendsCounted server count old mid → IsSendCounted mid server new → AreSendsCounted server (count + 1) old new
+  counted_more {server} {old} {mid} {new} count counts more = subst (λ sent. Gains IsSendCounted old sent new) (replicate_more count server) (gains_push counts more)
 
   -- one send was counted
-  pub counted_once : {server : ℕ} {old new : Parts H (List ℕ) T C} → AreCounted server 1 old new → IsCounted old server new
+  pub counted_once : {server : ℕ} {old new : Parts H (List ℕ) T C} → AreSendsCounted server 1 old new → IsSendCounted old server new
   counted_once {old = old} {new} counts = once old new counts.leads
 
 module _ {H T C : Type 0} {servers : H → ℕ} where
   -- what that leaves of the parts
-  pub one_stays : {server : ℕ} {old new : Parts H (List ℕ) T C} → IsCounted old server new → HasStayed servers old new
+  pub one_stays : {server : ℕ} {old new : Parts H (List ℕ) T C} → IsSendCounted old server new → HasStayed servers old new
   one_stays counts = record {
     config = ap (λ (p : Parts H (List ℕ) T C). p.config) counts.others;
     health = ap (λ (p : Parts H (List ℕ) T C). servers p.backend.health) counts.others;
     links = counts.servers;
   }
 
-  pub all_stay : (sent : List ℕ) (old new : Parts H (List ℕ) T C) → Lead IsCounted old sent new → HasStayed servers old new
+  pub all_stay : (sent : List ℕ) (old new : Parts H (List ℕ) T C) → Lead IsSendCounted old sent new → HasStayed servers old new
   all_stay [] old new same = subst (λ p. HasStayed servers old p) (sym same) no_change
   all_stay (server ∷ sent) old new (mid, first, rest) = stayed_on (one_stays first) (all_stay sent mid new rest)

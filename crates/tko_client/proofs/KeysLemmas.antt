@@ -8,7 +8,7 @@ use Rattle.std.proofs.lemmas.List.Elements.{All-head, All-tail}
 use Rattle.tko_model.specs.Records.{Gains, HealthItem}
 use Rattle.tko_model.proofs.RecordLemmas.{gains_append, gains_none, gains_push}
 use Rattle.tko_pools.specs.Configs.{Configuration}
-use Rattle.tko_route.specs.Calls.{Call, Told}
+use Rattle.tko_route.specs.Calls.{RoutedCall, Told}
 use Rattle.tko_route.specs.declared.attempt.Attempt.{Attempt}
 use Rattle.tko_text.specs.declared.request.Request.{Request}
 use Rattle.tko_reply.specs.Ghosts.{PartsGhosts}
@@ -30,7 +30,7 @@ use Rattle.tko_keys.specs.SlotCalls.{PartDropped}
 use Rattle.tko_keys.specs.SlotCalls as slots
 use Rattle.tko_client.specs.declared.calls.Went.TheVariants as went
 use Rattle.tko_client.specs.Answerings.{AreSettled}
-use Rattle.tko_client.specs.Keys.{AreKeysLeft, DoesForKeys, HasGoneOn, HasKeyCall, HaveActed, HaveGoneOn, IsDueAfter, IsKeyRecorded, KeysOver}
+use Rattle.tko_client.specs.Keys.{AreKeysLeft, DoesForKeys, HasGoneOn, HasKeyCall, HaveActedForKeys, HaveGoneOn, IsDueAfter, IsKeyRecorded, KeysOver}
 use Rattle.tko_client.specs.Keys as kept
 use Rattle.tko_client.proofs.AskLemmas.{due_joined, none_true, same_asking, servers_of}
 use Rattle.tko_client.proofs.CallLemmas.{marks_gained}
@@ -44,11 +44,11 @@ due_pushed : (place : ℕ) (said : KeyStep) (due : List DueKey) → IsDueAfter s
 due_pushed place (step.Due server) due = some_pushed due (driven.due place server)
 due_pushed place (step.Tried trail) due = tt
 
-pub began_due : (config : Configuration) (old new : KeysState) (calls : List Call) (said : KeyStep) → NextBegun config old calls said new → IsDueAfter said new.due
+pub began_due : (config : Configuration) (old new : KeysState) (calls : List RoutedCall) (said : KeyStep) → NextBegun config old calls said new → IsDueAfter said new.due
 began_due config old new calls said is =
     subst (λ (k : KeysState). IsDueAfter said k.due) (sym is.state) (due_pushed (length old.slots) said old.due)
 
-pub took_due : (config : Configuration) (old new : KeysState) (calls : List Call) (said : KeyStep) → FirstTaken config old calls said new → IsDueAfter said new.due
+pub took_due : (config : Configuration) (old new : KeysState) (calls : List RoutedCall) (said : KeyStep) → FirstTaken config old calls said new → IsDueAfter said new.due
 took_due config old new calls said is =
     subst (λ (k : KeysState). IsDueAfter said k.due) (sym is.state) (due_pushed is.place said old.due)
 
@@ -106,16 +106,16 @@ loss_ready : {config : Configuration} {keys : KeysState} → AreUnderWay config 
 loss_ready is = record { due = is.due; sent = is.sent; came = is.came; once = is.once; some = is.some; few = is.few; near = is.near; failed = is.failed }
 
 -- memory ran out before the next key was begun, or at it: what is under way and what came stay
-begin_lost_sends : {config : Configuration} {old new : KeysState} {calls : List Call} {attempts : List Attempt} → NextLost config old calls attempts new → new.sends ≡ old.sends
+begin_lost_sends : {config : Configuration} {old new : KeysState} {calls : List RoutedCall} {attempts : List Attempt} → NextLost config old calls attempts new → new.sends ≡ old.sends
 begin_lost_sends (driven.unbegun none unmarked same) = ap (λ (k : KeysState). k.sends) same
 begin_lost_sends (driven.at_next key left slot may next lost ended same) = ap (λ (k : KeysState). k.sends) same
 
-begin_lost_came : {config : Configuration} {old new : KeysState} {calls : List Call} {attempts : List Attempt} → NextLost config old calls attempts new → new.came ≡ old.came
+begin_lost_came : {config : Configuration} {old new : KeysState} {calls : List RoutedCall} {attempts : List Attempt} → NextLost config old calls attempts new → new.came ≡ old.came
 begin_lost_came (driven.unbegun none unmarked same) = ap (λ (k : KeysState). k.came) same
 begin_lost_came (driven.at_next key left slot may next lost ended same) = ap (λ (k : KeysState). k.came) same
 
 -- a key that was dropped takes no other key with it
-dropped_places : {config : Configuration} {came left : KeysCame} {old new : KeySlot} {calls : List Call} {attempts : List Attempt} → PartDropped config came old calls attempts left new
+dropped_places : {config : Configuration} {came left : KeysCame} {old new : KeySlot} {calls : List RoutedCall} {attempts : List Attempt} → PartDropped config came old calls attempts left new
     → left.places ≡ came.places
 dropped_places (slots.in_call part waiting is out lost leaves) = ap (λ (c : KeysCame). c.places) leaves.same
 dropped_places (slots.before waiting out none marks same is) = ap (λ (c : KeysCame). c.places) same
@@ -263,17 +263,17 @@ module _ {H T C : Type 0} (ghosts : PartsGhosts H (List ℕ) T C) where
       }
 
   -- no act; or one more
-  pub acted_none : (config : Configuration) (at : KeysOver H T C) → HaveActed ghosts config at at
+  pub acted_none : (config : Configuration) (at : KeysOver H T C) → HaveActedForKeys ghosts config at at
   acted_none config at = record { calls = []; gains = gains_none at }
 
-  pub acted_on : {config : Configuration} {old mid new : KeysOver H T C} → mid.1.config ≡ config → HaveActed ghosts config old mid → HasGoneOn ghosts mid new → HaveActed ghosts config old new
+  pub acted_on : {config : Configuration} {old mid new : KeysOver H T C} → mid.1.config ≡ config → HaveActedForKeys ghosts config old mid → HasGoneOn ghosts mid new → HaveActedForKeys ghosts config old new
   acted_on {mid = mid} {new} same acted on = record {
     calls = acted.calls ++ on.done ∷ [];
     gains = gains_push acted.gains (subst (λ c. DoesForKeys ghosts c mid on.done new) same on.act);
   }
 
   -- they were taken on until none was left
-  pub gone_on : (old new : KeysOver H T C) (more : Bool) → new.1.config ≡ old.1.config → HaveActed ghosts old.1.config old new → new.0.sends ≡ old.0.sends → AreUnderWay new.1.config new.0
+  pub gone_on : (old new : KeysOver H T C) (more : Bool) → new.1.config ≡ old.1.config → HaveActedForKeys ghosts old.1.config old new → new.0.sends ≡ old.0.sends → AreUnderWay new.1.config new.0
       → IsTrue more ↔ (new.0.came.places ≢ []) → more ≡ false → HaveGoneOn ghosts old new
   gone_on old new more same acted sends ready left none = record {
     acted = acted;

@@ -9,7 +9,7 @@ use Rattle.tko_mux.specs.Awaits.{awaited_one}
 use Rattle.tko_keys.specs.KeysState.{KeysState}
 use Rattle.tko_keys.specs.declared.plan.KeyPlan.{KeyPlan}
 use Rattle.tko_session.specs.Awaiting.{awaited_in}
-use Rattle.tko_session.specs.Driven.{IsReady, MayGoOn}
+use Rattle.tko_session.specs.Driven.{IsSessionReady, MayGoOn}
 use Rattle.tko_session.specs.Outgoing.{outgoing, outgoing_in, sent_from, shifted_work}
 use Rattle.tko_session.specs.SessionState.{SessionState}
 use Rattle.tko_session.specs.Working.{Work}
@@ -17,8 +17,8 @@ use Rattle.tko_session.specs.Working as work
 use Rattle.tko_session.proofs.LifeLemmas.{begins}
 use Rattle.tko_port.specs.Talks.{Fed, Sent, TalkItem}
 use Rattle.tko_client.specs.declared.answering.Answering.{Answering}
-use Rattle.tko_client.specs.declared.client.Course.{Course}
-use Rattle.tko_client.specs.declared.client.Course.TheVariants as course
+use Rattle.tko_client.specs.declared.client.ClientStanding.{ClientStanding}
+use Rattle.tko_client.specs.declared.client.ClientStanding.TheVariants as course
 use Rattle.tko_client.specs.declared.client.EventClient.{EventClient}
 use Rattle.tko_client.specs.Answerings.{AreKeysReady, IsIdleWith, IsOwn, MayCallWith, awaited_with}
 use Rattle.tko_client.specs.Clients.{CourseReading, CourseStands, DoesAs, IsReadyAfter, IsReadyOver, bytes_in, client_of}
@@ -79,7 +79,7 @@ waits_still (Some keys) at count = refl
 abbrev sent_answering : Answering → ℕ → Answering
 sent_answering old count = record old { session = sent_from old.session count }
 
-stands_still : (course : Course) (old : Answering) (count : ℕ) → CourseStands course old → CourseStands course (sent_answering old count)
+stands_still : (course : ClientStanding) (old : Answering) (count : ℕ) → CourseStands course old → CourseStands course (sent_answering old count)
 stands_still course.Going old count is = may_still old.keys old.session.work count is
 stands_still course.Waits old count is = λ none. is (sym (waits_still old.keys old.session.work count) ∙ none)
 stands_still course.Full old count is = idle_still old.keys old.session.work count is
@@ -91,7 +91,7 @@ stands_still course.Short old count is = idle_still old.keys old.session.work co
 
 -- a client whose replies were written can be called still
 pub sent_over : (config : Configuration) (old new : EventClient) (count : ℕ) → IsReadyOver config old → new.answering ≡ sent_answering old.answering count
-    → IsReady config new.answering.session → new.course ≡ old.course → IsReadyOver config new
+    → IsSessionReady config new.answering.session → new.course ≡ old.course → IsReadyOver config new
 sent_over config old new count over sent ready same =
     let was = old.answering in record {
       answering = record {

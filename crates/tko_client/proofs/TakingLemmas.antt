@@ -2,7 +2,7 @@
 use Rattle.std.proofs.Common.{◌≡◌, ◌≢◌, ◌<◌, ℕ, Bool, true, false, List, [], ◌∷◌, ◌++◌, All, length, Option, Some, None, Result, Ok, Err, refl, sym, ap, subst, ◌∙◌, arith, slice_index}
 use Rattle.std.specs.Prelude.{IsSome}
 use Rattle.std.proofs.lemmas.List.Elements.{All-head}
-use Rattle.tko_links.specs.declared.links.NoMemory.{NoMemory}
+use Rattle.tko_links.specs.declared.links.ExchangeNoMemory.{ExchangeNoMemory}
 use Rattle.tko_links.specs.declared.links.Outcome.{Outcome}
 use Rattle.tko_links.specs.Links.{is_sent, most_sends}
 use Rattle.tko_health.specs.declared.health.Health.{Ghosts as HealthGhosts}
@@ -14,7 +14,7 @@ use Rattle.tko_text.specs.declared.request.Request.{Request}
 use Rattle.tko_reply.specs.Ghosts.{PartsGhosts}
 use Rattle.tko_reply.specs.Interactions.{Interaction, Interacts, Made, Noted, with_noted}
 use Rattle.tko_reply.specs.Sends.{IsSent}
-use Rattle.tko_reply.specs.Standing.{Asking, asking}
+use Rattle.tko_reply.specs.Standing.{SentKey, asking}
 use Rattle.tko_reply.specs.declared.parts.Parts.{Parts}
 use Rattle.tko_reply.specs.declared.trails.Trails.{Ghosts as TrailsGhosts}
 use Rattle.tko_mux.specs.Awaits.{awaited_one, times_due}
@@ -28,20 +28,20 @@ use Rattle.tko_session.specs.Acts.{IsLoss, IsSessionCall, came_to}
 use Rattle.tko_session.specs.Acts as act
 use Rattle.tko_session.specs.Awaiting.{awaited_in}
 use Rattle.tko_session.specs.Clients.{Open, Short}
-use Rattle.tko_session.specs.Driven.{IsAwaiting, IsReady, dropped}
+use Rattle.tko_session.specs.Driven.{IsAwaiting, IsSessionReady, dropped}
 use Rattle.tko_session.specs.SessionState.{SessionState}
 use Rattle.tko_session.specs.Working.{Work}
 use Rattle.tko_session.specs.Working as work
 use Rattle.tko_client.specs.declared.answering.Answering.{Answering}
 use Rattle.tko_client.specs.declared.calls.Went.{Went}
 use Rattle.tko_client.specs.declared.calls.Went.TheVariants as went
-use Rattle.tko_client.specs.Answerings.{IsAnsweringReady, IsOwn, awaited_by, awaited_with, client_at}
+use Rattle.tko_client.specs.Answerings.{IsAnsweringReady, IsOwn, awaited_by_client, awaited_with, client_at}
 use Rattle.tko_client.specs.Calls.{IsTakenAs}
-use Rattle.tko_client.specs.Clients.{Does, by_keys, by_session}
-use Rattle.tko_client.specs.Counts.{IsCounted}
-use Rattle.tko_client.specs.Keys.{DoesForKeys, HaveCome, KeysOver, TakesAt, came_by}
+use Rattle.tko_client.specs.Clients.{ActsWithoutBytes, by_keys, by_session}
+use Rattle.tko_client.specs.Counts.{IsSendCounted}
+use Rattle.tko_client.specs.Keys.{DoesForKeys, HaveActedOnOutcome, KeysOver, TakesAt, came_by}
 use Rattle.tko_client.specs.Staying.{stayed_on}
-use Rattle.tko_client.specs.Steps.{HasStayed, IsLostTaking, IsOfSession, IsTaken, WentReading, asked_in, client_ghosts, phase_of}
+use Rattle.tko_client.specs.Steps.{HasStayed, IsLostTaking, IsOfSession, IsOutcomeTaken, WentReading, client_ghosts, phase_of, server_asked_in}
 use Rattle.tko_client.proofs.AskLemmas.{awaits_first, first_server, one_taken}
 use Rattle.tko_client.proofs.CallLemmas.{out_at}
 use Rattle.tko_client.proofs.CountLemmas.{counted, one_stays, uncounted}
@@ -50,7 +50,7 @@ use Rattle.tko_client.proofs.KeysLemmas.{all_first, some_first}
 
 -- the send that is out is to the server that is awaited
 pub record IsSentTo (at : Work) (server : ℕ) : Type 0 where
-  pub it : Asking
+  pub it : SentKey
   pub is : at ≡ work.Awaits it
   pub to : it.waiting.server ≡ server
 
@@ -61,20 +61,20 @@ sent_at (work.Awaits it) server is = record { it = it; is = refl; to = cc }
 sent_at (work.Ended one) server is = absurd (let no : ⊥ = cc in no)
 sent_at work.HandedOver server is = absurd (let no : ⊥ = cc in no)
 
-pub sent_to : (it : Answering) (server : ℕ) → it.keys ≡ None → 0 < times_due (awaited_by it) server → IsSentTo it.session.work server
+pub sent_to : (it : Answering) (server : ℕ) → it.keys ≡ None → 0 < times_due (awaited_by_client it) server → IsSentTo it.session.work server
 sent_to it server none some =
     sent_at it.session.work server (awaits_one (awaited_in it.session.work) server (subst (λ k. 0 < times_due (awaited_with k it.session.work) server) none some))
 
 pub sent_awaits : (at : Work) (server : ℕ) → IsSentTo at server → IsAwaiting at
 sent_awaits at server is = subst IsAwaiting (sym is.is) tt
 
-pub keys_awaits : (it : Answering) (keys : KeysState) (server : ℕ) → it.keys ≡ Some keys → 0 < times_due (awaited_by it) server → IsSome (first_send server keys.sends)
+pub keys_awaits : (it : Answering) (keys : KeysState) (server : ℕ) → it.keys ≡ Some keys → 0 < times_due (awaited_by_client it) server → IsSome (first_send server keys.sends)
 keys_awaits it keys server are some = awaits_first server keys.sends (subst (λ k. 0 < times_due (awaited_with k it.session.work) server) are some)
 
 -- the first request at a server is one to a target of its keys
 record IsFirstSent (config : Configuration) (server : ℕ) : Type 0 where
   targets : List ℕ
-  it : Asking
+  it : SentKey
   sent : IsSent config targets it
   to : it.waiting.server ≡ server
 
@@ -95,11 +95,11 @@ first_to config keys server ready some =
     (one_sent config keys.slots found.0.server found.0.places keys.unique keys.plan.grouping found.0.line sent.each sent.by)
 
 -- a server that is awaited is one
-sent_within : (config : Configuration) (targets : List ℕ) (it : Asking) → IsSent config targets it → it.waiting.server < length config.addresses
+sent_within : (config : Configuration) (targets : List ℕ) (it : SentKey) → IsSent config targets it → it.waiting.server < length config.addresses
 sent_within config targets it sent =
     subst (λ n. n < length config.addresses) (sym sent.out.awaited.server) (sent.out.within (length it.waiting.attempts) 0 sent.out.awaited.tried.shorter)
 
-pub awaited_within : (config : Configuration) (it : Answering) (server : ℕ) → IsAnsweringReady config it → 0 < times_due (awaited_by it) server → server < length config.addresses
+pub awaited_within : (config : Configuration) (it : Answering) (server : ℕ) → IsAnsweringReady config it → 0 < times_due (awaited_by_client it) server → server < length config.addresses
 awaited_within config it server ready some = by it.keys refl
   where
     by : (keys : Option KeysState) → it.keys ≡ keys → server < length config.addresses
@@ -112,21 +112,21 @@ awaited_within config it server ready some = by it.keys refl
 
 -- whom a client awaits once what came to its session was taken
 session_takes : (server : ℕ) (asked : Option ℕ) (old new : Answering) → old.keys ≡ None → IsSentTo old.session.work server → new.keys ≡ None
-    → awaited_in new.session.work ≡ asked → TakesAt server asked (awaited_by old) (awaited_by new)
+    → awaited_in new.session.work ≡ asked → TakesAt server asked (awaited_by_client old) (awaited_by_client new)
 session_takes server asked old new none sent without asks =
     let out : awaited_in old.session.work ≡ Some server = ap awaited_in sent.is ∙ ap Some sent.to in
-    subst (λ xs. TakesAt server asked xs (awaited_by new)) (sym (session_awaits old (Some server) none out))
+    subst (λ xs. TakesAt server asked xs (awaited_by_client new)) (sym (session_awaits old (Some server) none out))
     (subst (λ xs. TakesAt server asked (awaited_one (Some server)) xs) (sym (session_awaits new asked without asks)) (one_taken server asked))
 
 keys_takes : (server : ℕ) (asked : Option ℕ) (old : Answering) (keys now : KeysState) → old.keys ≡ Some keys → TakesAt server asked (awaited keys) (awaited now)
-    → TakesAt server asked (awaited_by old) (awaited now)
+    → TakesAt server asked (awaited_by_client old) (awaited now)
 keys_takes server asked old keys now are takes = subst (λ k. TakesAt server asked (awaited_with k old.session.work) (awaited now)) (sym are) takes
 
 module _ {H T C : Type 0} (ghosts : PartsGhosts H (List ℕ) T C) where
   -- acts for keys are acts of their client
   keys_lead : (config : Configuration) (old : Answering) (keys now : KeysState) (parts after : Parts H (List ℕ) T C) (calls : List (List Interaction)) → old.session.work ≡ work.HandedOver
       → old.keys ≡ Some keys → Lead (DoesForKeys ghosts config) (keys, parts) calls (now, after)
-      → Lead (Does ghosts config) (client_at Open old, parts) calls (client_at Open (record old { keys = Some now }), after)
+      → Lead (ActsWithoutBytes ghosts config) (client_at Open old, parts) calls (client_at Open (record old { keys = Some now }), after)
   keys_lead config old keys now parts after [] at are same =
       ap (λ (k : KeysOver H T C). (client_at Open (record old { keys = Some k.0 }), k.1)) same ∙ ap (λ k. (client_at Open (record old { keys = k }), parts)) (sym are)
   keys_lead config old keys now parts after (done ∷ calls) at are ((mid, between), step, rest) =
@@ -139,14 +139,14 @@ module _ {H T C : Type 0} (ghosts : PartsGhosts H (List ℕ) T C) where
 module _ {H T C : Type 0} (health : HealthGhosts H) (trails : TrailsGhosts T) (servers : H → ℕ) where
   -- the session took what came of its send
   pub session_taken : (came : Went) (server : ℕ) (result : Outcome) (old new : Answering) (parts mid after : Parts H (List ℕ) T C) → old.keys ≡ None
-      → IsSentTo old.session.work server → is_sent result ≡ true → IsCounted parts server mid → new ≡ record old { session = new.session; told = new.told }
-      → IsTaken (client_ghosts health trails) result (phase_of came) (old.session, mid) (new.session, after) → IsOfSession came → IsOwn new.session.work
-      → awaited_in new.session.work ≡ asked_in came → WentReading came new.session.reading → IsReady after.config new.session → HasStayed servers mid after
+      → IsSentTo old.session.work server → is_sent result ≡ true → IsSendCounted parts server mid → new ≡ record old { session = new.session; told = new.told }
+      → IsOutcomeTaken (client_ghosts health trails) result (phase_of came) (old.session, mid) (new.session, after) → IsOfSession came → IsOwn new.session.work
+      → awaited_in new.session.work ≡ server_asked_in came → WentReading came new.session.reading → IsSessionReady after.config new.session → HasStayed servers mid after
       → IsTakenAs (client_ghosts health trails) servers false server (Ok result) came (old, parts) (new, after)
   session_taken came server result old new parts mid after none sent is_sent_out counts same step goes own asks reading ready stays =
       let config : mid.config ≡ parts.config = ap (λ (p : Parts H (List ℕ) T C). p.config) counts.others in
       let it_same : step.it ≡ sent.it = (let equal : work.Awaits step.it ≡ work.Awaits sent.it = sym step.at ∙ sent.is in cc) in
-      let to : step.it.waiting.server ≡ server = ap (λ (a : Asking). a.waiting.server) it_same ∙ sent.to in
+      let to : step.it.waiting.server ≡ server = ap (λ (a : SentKey). a.waiting.server) it_same ∙ sent.to in
       let done = came_to step.it (Ok result) ∷ step.then in
       let without : new.keys ≡ None = ap (λ (it : Answering). it.keys) same ∙ none in
       let sends : Interacts (client_ghosts health trails) parts (came_to step.it (Ok result)) mid =
@@ -162,19 +162,19 @@ module _ {H T C : Type 0} (health : HealthGhosts H) (trails : TrailsGhosts T) (s
             gains_append (gains_one sends) step.gains,
           );
         });
-        takes = session_takes server (asked_in came) old new none sent without asks;
+        takes = session_takes server (server_asked_in came) old new none sent without asks;
         left = session_left came old new parts after without goes own asks reading ready (stayed_on (one_stays counts) stays);
       }
 
   -- memory ran out as it did
   pub session_lost : (server : ℕ) (result : Outcome) (old new : Answering) (parts mid after : Parts H (List ℕ) T C) → old.keys ≡ None
-      → IsSentTo old.session.work server → is_sent result ≡ true → IsCounted parts server mid → new ≡ record old { session = new.session; told = new.told }
+      → IsSentTo old.session.work server → is_sent result ≡ true → IsSendCounted parts server mid → new ≡ record old { session = new.session; told = new.told }
       → IsLostTaking (client_ghosts health trails) result (old.session, mid) (new.session, after) → new.session.work ≡ work.Between → HasStayed servers mid after
       → IsTakenAs (client_ghosts health trails) servers false server (Ok result) went.Short (old, parts) (new, after)
   session_lost server result old new parts mid after none sent is_sent_out counts same step between stays =
       let config : mid.config ≡ parts.config = ap (λ (p : Parts H (List ℕ) T C). p.config) counts.others in
       let it_same : step.it ≡ sent.it = (let equal : work.Awaits step.it ≡ work.Awaits sent.it = sym step.at ∙ sent.is in cc) in
-      let to : step.it.waiting.server ≡ server = ap (λ (a : Asking). a.waiting.server) it_same ∙ sent.to in
+      let to : step.it.waiting.server ≡ server = ap (λ (a : SentKey). a.waiting.server) it_same ∙ sent.to in
       let done = came_to step.it (Ok result) ∷ step.then in
       let without : new.keys ≡ None = ap (λ (it : Answering). it.keys) same ∙ none in
       let sends : Interacts (client_ghosts health trails) parts (came_to step.it (Ok result)) mid =
@@ -195,8 +195,8 @@ module _ {H T C : Type 0} (health : HealthGhosts H) (trails : TrailsGhosts T) (s
       }
 
   -- what came of a request for keys was taken
-  pub keys_taken : (unsent : Bool) (server : ℕ) (result : Result Outcome NoMemory) (old : Answering) (keys now : KeysState) (parts after : Parts H (List ℕ) T C)
-      → IsAnsweringReady parts.config old → old.keys ≡ Some keys → HaveCome (client_ghosts health trails) unsent server result (keys, parts) (now, after) → HasStayed servers parts after
+  pub keys_taken : (unsent : Bool) (server : ℕ) (result : Result Outcome ExchangeNoMemory) (old : Answering) (keys now : KeysState) (parts after : Parts H (List ℕ) T C)
+      → IsAnsweringReady parts.config old → old.keys ≡ Some keys → HaveActedOnOutcome (client_ghosts health trails) unsent server result (keys, parts) (now, after) → HasStayed servers parts after
       → IsTakenAs (client_ghosts health trails) servers unsent server result went.On (old, parts) (record old { keys = Some now }, after)
   keys_taken unsent server result old keys now parts after ready are come stays =
       let at = handed_at ready are in record {
@@ -217,7 +217,7 @@ module _ {H T C : Type 0} (health : HealthGhosts H) (trails : TrailsGhosts T) (s
   -- memory ran out for the session's send
   pub session_stopped : (unsent : Bool) (server : ℕ) (old new : Answering) (parts after : Parts H (List ℕ) T C) → old.keys ≡ None → IsSentTo old.session.work server
       → slice_index parts.backend.links server ≢ most_sends → new ≡ record old { session = dropped old.session; told = new.told }
-      → ((it : Asking) → old.session.work ≡ work.Awaits it → after ≡ with_noted it.waiting.attempts parts) → HasStayed servers parts after
+      → ((it : SentKey) → old.session.work ≡ work.Awaits it → after ≡ with_noted it.waiting.attempts parts) → HasStayed servers parts after
       → IsTakenAs (client_ghosts health trails) servers unsent server (Err (record { sent = false })) went.Short (old, parts) (new, after)
   session_stopped unsent server old new parts after none sent room same noted stays =
       let session : new.session ≡ dropped old.session = ap (λ (it : Answering). it.session) same in

@@ -5,16 +5,16 @@ use Rattle.tko_text.specs.declared.request.Request.{Request}
 use Rattle.tko_pools.specs.Configs.{Configuration}
 use Rattle.tko_mux.specs.Awaits.{awaited_one}
 use Rattle.tko_keys.specs.KeysDriven.{AreUnderWay}
-use Rattle.tko_keys.specs.KeysState.{KeysState, asked_first, asked_last, awaited, held_in}
+use Rattle.tko_keys.specs.KeysState.{KeysState, asked_first, asked_last, awaited, bytes_held_in}
 use Rattle.tko_session.specs.Awaiting.{awaited_in}
-use Rattle.tko_session.specs.Clients.{Client, ClientPhase}
-use Rattle.tko_session.specs.Driven.{IsReady, MayGoOn}
+use Rattle.tko_session.specs.Clients.{ClientPhase, ClientState}
+use Rattle.tko_session.specs.Driven.{IsSessionReady, MayGoOn}
 use Rattle.tko_session.specs.Working.{Work}
 use Rattle.tko_session.specs.Working as work
 use Rattle.tko_client.specs.declared.answering.Answering.{Answering}
 
 -- the client of a worker that this is, where its session stands so
-abbrev pub client_at : ClientPhase → Answering → Client
+abbrev pub client_at : ClientPhase → Answering → ClientState
 client_at phase it =
     record { plan = it.plan; phase = phase; session = it.session; keys = it.keys }
 
@@ -23,8 +23,8 @@ abbrev pub awaited_with : Option KeysState → Work → List ℕ
 awaited_with None at = awaited_one (awaited_in at)
 awaited_with (Some keys) at = awaited keys
 
-abbrev pub awaited_by : Answering → List ℕ
-awaited_by it = awaited_with it.keys it.session.work
+abbrev pub awaited_by_client : Answering → List ℕ
+awaited_by_client it = awaited_with it.keys it.session.work
 
 -- the request that a send of the session is out for
 abbrev pub asked_for : Work → Option Request
@@ -54,10 +54,10 @@ waited_by it server = waited_with it.keys it.session.work server
 -- number stays at 2^64 - 1
 abbrev pub held_with : Option KeysState → ℕ → ℕ
 held_with None count = count
-held_with (Some keys) count = min (count + held_in keys.slots) (2 ^ 64 - 1)
+held_with (Some keys) count = min (count + bytes_held_in keys.slots) (2 ^ 64 - 1)
 
-abbrev pub held_by : Answering → ℕ
-held_by it = held_with it.keys (length it.session.outbox)
+abbrev pub held_by_client : Answering → ℕ
+held_by_client it = held_with it.keys (length it.session.outbox)
 
 -- the session answers its requests itself
 abbrev pub IsOwn : Work → Type 0
@@ -78,7 +78,7 @@ AreKeysReady config None at = IsOwn at
 AreKeysReady config (Some keys) at = (at ≡ work.HandedOver) × AreSettled config keys
 
 pub record IsAnsweringReady (config : Configuration) (it : Answering) : Type 0 where
-  pub session : IsReady config it.session
+  pub session : IsSessionReady config it.session
   pub keys : AreKeysReady config it.keys it.session.work
 
 -- the session is at no send, and no request was handed over
@@ -86,13 +86,13 @@ abbrev pub IsIdleWith : Option KeysState → Work → Type 0
 IsIdleWith None at = MayGoOn at
 IsIdleWith (Some keys) at = ⊥
 
-abbrev pub IsIdle : Answering → Type 0
-IsIdle it = IsIdleWith it.keys it.session.work
+abbrev pub IsClientIdle : Answering → Type 0
+IsClientIdle it = IsIdleWith it.keys it.session.work
 
 -- it can be called: as above, or for the keys of a request that was handed over
 abbrev pub MayCallWith : Option KeysState → Work → Type 0
 MayCallWith None at = MayGoOn at
 MayCallWith (Some keys) at = Unit {0}
 
-abbrev pub MayCall : Answering → Type 0
-MayCall it = MayCallWith it.keys it.session.work
+abbrev pub MayCallClient : Answering → Type 0
+MayCallClient it = MayCallWith it.keys it.session.work

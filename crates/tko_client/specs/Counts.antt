@@ -6,7 +6,7 @@ use Rattle.tko_reply.specs.Interactions.{with_links}
 use Rattle.tko_reply.specs.declared.parts.Parts.{Parts}
 
 -- a send to this server was counted
-pub record IsCounted {H T C : Type 0} (old : Parts H (List ℕ) T C) (server : ℕ)
+pub record IsSendCounted {H T C : Type 0} (old : Parts H (List ℕ) T C) (server : ℕ)
     (new : Parts H (List ℕ) T C) : Type 0 where
   pub rises : (at : ℕ) → slice_index new.backend.links at
       ≡ slice_index old.backend.links at + part_of true server at
@@ -15,6 +15,6 @@ pub record IsCounted {H T C : Type 0} (old : Parts H (List ℕ) T C) (server : �
   pub others : new ≡ with_links new.backend.links old
 
 -- so many sends to it were counted, one after another
-abbrev pub AreCounted : {H T C : Type 0} → ℕ → ℕ → Parts H (List ℕ) T C → Parts H (List ℕ) T C
+abbrev pub AreSendsCounted : {H T C : Type 0} → ℕ → ℕ → Parts H (List ℕ) T C → Parts H (List ℕ) T C
     → Type 0
-AreCounted server count old new = Gains IsCounted old (replicate count server) new
+AreSendsCounted server count old new = Gains IsSendCounted old (replicate count server) new

@@ -9,8 +9,8 @@ use Rattle.tko_client.specs.declared.answering.Answering.{Answering}
 use Rattle.tko_client.specs.declared.calls.Went.{Went}
 use Rattle.tko_client.specs.declared.calls.Went.TheVariants.{On, Short}
 
--- a request is handed over, and its keys are to be begun; or there was no memory for them, and it is
--- dropped
+-- a request is handed over, and its keys are to be begun; or there was no memory for them, and it
+-- is dropped
 pub data HasHanded (went : Went) (old new : Answering) : Type 0 where
   taken : (request : Request) (keys : KeysState) → 1 < old.plan.most
       → HandsOver old.session request new.session → IsNew request old.plan keys

@@ -2,7 +2,7 @@
 -- parts that all clients of a worker share.
 use Rattle.std.specs.Prelude.{◌≡◌, ◌≢◌, ◌==◌, ◌+◌, ℕ, Bool, true, false, List, [], ◌∷◌, ◌++◌, None, Option, Some, Result, Ok, Err, IfSome, IsSome}
 use Rattle.tko_model.specs.Records.{Gains}
-use Rattle.tko_links.specs.declared.links.NoMemory.{NoMemory}
+use Rattle.tko_links.specs.declared.links.ExchangeNoMemory.{ExchangeNoMemory}
 use Rattle.tko_links.specs.declared.links.Outcome.{Outcome}
 use Rattle.tko_pools.specs.Configs.{Configuration}
 use Rattle.tko_route.specs.declared.attempt.Attempt.{Attempt}
@@ -18,7 +18,7 @@ use Rattle.tko_keys.specs.declared.step.KeyStep.TheVariants as step
 use Rattle.tko_client.specs.declared.calls.Went.{Went}
 use Rattle.tko_client.specs.declared.calls.Went.TheVariants as went
 use Rattle.tko_client.specs.Answerings.{AreSettled}
-use Rattle.tko_client.specs.Steps.{asked_in}
+use Rattle.tko_client.specs.Steps.{server_asked_in}
 
 -- where a call said that a key is due, one is
 abbrev pub IsDueAfter : KeyStep → List DueKey → Type 0
@@ -54,7 +54,7 @@ HasStoppedAs true server old new = IsUnsent server old new
 
 -- what came of a request for each of its keys: its part of the response, or else what came; or
 -- memory ran out
-abbrev pub came_by : Result Outcome NoMemory → List KeySlot → KeySend → List Interaction
+abbrev pub came_by : Result Outcome ExchangeNoMemory → List KeySlot → KeySend → List Interaction
 came_by (Ok outcome) slots send = came_parts outcome slots send
 came_by (Err fault) slots send = came_lost fault.sent slots send
 
@@ -64,7 +64,7 @@ KeysOver H T C = KeysState × Parts H (List ℕ) T C
 
 -- what a call for the keys leaves: whom it asks, and that they can be called
 pub record AreKeysLeft {H T C : Type 0} (went : Went) (old new : KeysOver H T C) : Type 0 where
-  pub request : IfSome (asked_in went) (λ server. IsSome (asked_last new.0))
+  pub request : IfSome (server_asked_in went) (λ server. IsSome (asked_last new.0))
   pub goes : IsOfKeys went
   pub ready : AreSettled old.1.config new.0
 
@@ -86,7 +86,7 @@ module _ {H T C : Type 0} (ghosts : PartsGhosts H (List ℕ) T C) where
   pub record HasKeyCall (went : Went) (old new : KeysOver H T C) : Type 0 where
     pub done : List Interaction
     pub act : DoesForKeys old.1.config old done new
-    pub asks : IsAsking (asked_in went) (awaited old.0) (awaited new.0)
+    pub asks : IsAsking (server_asked_in went) (awaited old.0) (awaited new.0)
     pub left : AreKeysLeft went old new
 
   -- the first key that something came for was taken on
@@ -99,19 +99,19 @@ module _ {H T C : Type 0} (ghosts : PartsGhosts H (List ℕ) T C) where
     pub ready : AreUnderWay old.1.config new.0
 
   -- acts for the keys
-  pub record HaveActed (config : Configuration) (old new : KeysOver H T C) : Type 0 where
+  pub record HaveActedForKeys (config : Configuration) (old new : KeysOver H T C) : Type 0 where
     pub calls : List (List Interaction)
     pub gains : Gains (DoesForKeys config) old calls new
 
   -- all keys that something came for were taken on
   pub record HaveGoneOn (old new : KeysOver H T C) : Type 0 where
-    pub acted : HaveActed old.1.config old new
+    pub acted : HaveActedForKeys old.1.config old new
     pub sends : new.0.sends ≡ old.0.sends
     pub ready : AreSettled old.1.config new.0
 
   -- acts of which the first is that this came of a request under way
-  pub record HaveCome (unsent : Bool) (server : ℕ) (result : Result Outcome NoMemory)
-      (old new : KeysOver H T C) : Type 0 where
+  pub record HaveActedOnOutcome (unsent : Bool) (server : ℕ)
+      (result : Result Outcome ExchangeNoMemory) (old new : KeysOver H T C) : Type 0 where
     pub send : KeySend
     pub is : IsSendOf unsent server old.0.sends send
     pub then : List Interaction

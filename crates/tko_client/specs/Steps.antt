@@ -6,7 +6,7 @@ use Rattle.tko_health.specs.declared.health.Health.{Ghosts as HealthGhosts}
 use Rattle.tko_links.specs.declared.links.Outcome.{Outcome}
 use Rattle.tko_reply.specs.Ghosts.{PartsGhosts}
 use Rattle.tko_reply.specs.Interactions.{Interaction, Interacts}
-use Rattle.tko_reply.specs.Standing.{Asking}
+use Rattle.tko_reply.specs.Standing.{SentKey}
 use Rattle.tko_reply.specs.declared.parts.Parts.{Parts}
 use Rattle.tko_reply.specs.declared.trails.Trails.{Ghosts as TrailsGhosts}
 use Rattle.tko_text.specs.Reading.{Never, Reading}
@@ -14,7 +14,7 @@ use Rattle.tko_session.specs.Acts.{IsLoss, IsSessionCall, IsToRecord, came_to, l
 use Rattle.tko_session.specs.Clients.{ClientPhase, Open, Over as PhaseOver, Short as PhaseShort}
 use Rattle.tko_session.specs.Driven.{dropped}
 use Rattle.tko_session.specs.SessionState.{SessionState}
-use Rattle.tko_session.specs.Working.{Awaits, Work, read_in}
+use Rattle.tko_session.specs.Working.{Awaits, Work, request_read_in}
 use Rattle.tko_session.specs.declared.step.Progress.{Progress}
 use Rattle.tko_session.specs.declared.step.Progress.TheVariants as progress
 use Rattle.tko_session.specs.declared.step.Step.{Step}
@@ -22,7 +22,7 @@ use Rattle.tko_session.specs.declared.step.Step.TheVariants as step
 use Rattle.tko_client.specs.declared.answering.Answering.{Answering}
 use Rattle.tko_client.specs.declared.calls.Went.{Went}
 use Rattle.tko_client.specs.declared.calls.Went.TheVariants.{Asks, NeedsInput, On, Over, Short, TooLong, Waits}
-use Rattle.tko_client.specs.Answerings.{IsIdle, MayCall, awaited_by}
+use Rattle.tko_client.specs.Answerings.{IsClientIdle, MayCallClient, awaited_by_client}
 
 -- what the parts of an event-driven worker show to its sessions: the connections are not the
 -- sessions', so a send is seen by its count alone; and no clock is read
@@ -55,14 +55,14 @@ went_from (step.Tried trail) = On
 went_from (step.At at) = went_of at
 
 -- the server that is asked
-abbrev pub asked_in : Went → Option ℕ
-asked_in (Asks server) = Some server
-asked_in On = None
-asked_in Waits = None
-asked_in NeedsInput = None
-asked_in Over = None
-asked_in TooLong = None
-asked_in Short = None
+abbrev pub server_asked_in : Went → Option ℕ
+server_asked_in (Asks server) = Some server
+server_asked_in On = None
+server_asked_in Waits = None
+server_asked_in NeedsInput = None
+server_asked_in Over = None
+server_asked_in TooLong = None
+server_asked_in Short = None
 
 abbrev pub phase_of : Went → ClientPhase
 phase_of Over = PhaseOver
@@ -96,17 +96,17 @@ IsOfSession Short = ⊥
 -- how a client may stand after a call that came to this: where it asks or waits, a request is under
 -- way; where it can go on, it can be called; else no request of it is being asked for
 abbrev pub WentStands : Went → Answering → Type 0
-WentStands (Asks server) it = awaited_by it ≢ []
-WentStands On it = MayCall it
-WentStands Waits it = awaited_by it ≢ []
-WentStands NeedsInput it = IsIdle it
-WentStands Over it = IsIdle it
-WentStands TooLong it = IsIdle it
-WentStands Short it = IsIdle it
+WentStands (Asks server) it = awaited_by_client it ≢ []
+WentStands On it = MayCallClient it
+WentStands Waits it = awaited_by_client it ≢ []
+WentStands NeedsInput it = IsClientIdle it
+WentStands Over it = IsClientIdle it
+WentStands TooLong it = IsClientIdle it
+WentStands Short it = IsClientIdle it
 
 -- a call that said that a request was read has it
 abbrev pub BeganAt : Step → Work → Type 0
-BeganAt step.Began at = IsSome (read_in at)
+BeganAt step.Began at = IsSome (request_read_in at)
 BeganAt (step.Asks clear) at = Unit {0}
 BeganAt (step.Tried trail) at = Unit {0}
 BeganAt (step.At it) at = Unit {0}
@@ -142,17 +142,17 @@ module _ {H T C : Type 0} (ghosts : PartsGhosts H (List ℕ) T C) where
     pub gains : Gains (Interacts ghosts) old.1 done new.1
 
   -- the session took what came of its send, which was counted before
-  pub record IsTaken (outcome : Outcome) (phase : ClientPhase) (old new : AtOver H T C) : Type 0
-    where
-      pub it : Asking
-      pub at : old.0.work ≡ Awaits it
-      pub then : List Interaction
-      pub call : IsSessionCall old.1.config old.0 (came_to it (Ok outcome) ∷ then) phase new.0
-      pub gains : Gains (Interacts ghosts) old.1 then new.1
+  pub record IsOutcomeTaken (outcome : Outcome) (phase : ClientPhase) (old new : AtOver H T C)
+      : Type 0 where
+    pub it : SentKey
+    pub at : old.0.work ≡ Awaits it
+    pub then : List Interaction
+    pub call : IsSessionCall old.1.config old.0 (came_to it (Ok outcome) ∷ then) phase new.0
+    pub gains : Gains (Interacts ghosts) old.1 then new.1
 
   -- memory ran out as it did
   pub record IsLostTaking (outcome : Outcome) (old new : AtOver H T C) : Type 0 where
-    pub it : Asking
+    pub it : SentKey
     pub at : old.0.work ≡ Awaits it
     pub then : List Interaction
     pub loss : IsLoss old.1.config old.0 (came_to it (Ok outcome) ∷ then) new.0

@@ -5,7 +5,7 @@ ghost use Rattle.std.specs.Bool.{OnFalse, OnTrue};
 ghost use Rattle.tko_mux.specs.Awaits.{times_due};
 ghost use Rattle.tko_pools.specs.Configs.{Configuration};
 ghost use Rattle.tko_session.specs.Clients.{Open, new_client};
-ghost use Rattle.tko_client.specs.Answerings.{IsAnsweringReady, IsIdle, MayCall, asked_by, awaited_by, client_at, held_by, waited_by};
+ghost use Rattle.tko_client.specs.Answerings.{IsAnsweringReady, IsClientIdle, MayCallClient, asked_by, awaited_by_client, client_at, held_by_client, waited_by};
 
 use std::alloc::Global;
 use tko_keys::{KeyPlan, KeysAtOnce};
@@ -28,8 +28,8 @@ impl Answering {
     /// Nothing came yet.
     pub(crate) fn new(alloc: Global, plan: KeyPlan) -> Answering
         ensures client { client_at Open result ≡ new_client plan }
-        ensures here { awaited_by result ≡ [] }
-        ensures idle { IsIdle result }
+        ensures here { awaited_by_client result ≡ [] }
+        ensures idle { IsClientIdle result }
         ensures ready { (config : Configuration) → IsAnsweringReady config result }
     {
         Answering {
@@ -42,8 +42,8 @@ impl Answering {
 
     /// Whether a request is under way.
     pub(crate) fn is_waiting(&self) -> bool
-        ensures some { OnTrue result (awaited_by self.now ≢ []) }
-        ensures none { OnFalse result (awaited_by self.now ≡ []) }
+        ensures some { OnTrue result (awaited_by_client self.now ≢ []) }
+        ensures none { OnFalse result (awaited_by_client self.now ≡ []) }
     {
         match &self.keys {
             Some(keys) => keys.is_waiting(),
@@ -53,7 +53,7 @@ impl Answering {
 
     /// Whether more can be done while requests are under way.
     pub(crate) fn may_do_more(&self) -> bool
-        ensures { OnTrue result (MayCall self.now) }
+        ensures { OnTrue result (MayCallClient self.now) }
     {
         match &self.keys {
             Some(keys) => keys.next_send().is_some() || keys.may_begin(),
@@ -74,7 +74,7 @@ impl Answering {
 
     /// The first request that is under way to this server.
     pub(crate) fn request_to(&self, server: usize) -> &Request
-        requires { 0 < times_due (awaited_by self.now) server }
+        requires { 0 < times_due (awaited_by_client self.now) server }
         ensures { waited_by self.now server ≡ Some result.now }
     {
         match &self.keys {
@@ -85,7 +85,7 @@ impl Answering {
 
     /// How many bytes of replies are held: of those that may be written, and of the one under way.
     pub(crate) fn held(&self) -> usize
-        ensures { result ≡ held_by self.now }
+        ensures { result ≡ held_by_client self.now }
     {
         let held = self.session.held();
         match &self.keys {

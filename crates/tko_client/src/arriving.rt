@@ -5,8 +5,8 @@ ghost use Rattle.tko_pools.specs.Configs.{Configuration};
 ghost use Rattle.tko_keys.specs.KeysDriven.{AreUnderWay};
 ghost use Rattle.tko_keys.specs.KeysState.{first_send, keys_first};
 ghost use Rattle.tko_client.specs.Answerings.{AreSettled};
-ghost use Rattle.tko_client.specs.Counts.{AreCounted};
-ghost use Rattle.tko_client.specs.Keys.{HasStoppedAs, HaveCome};
+ghost use Rattle.tko_client.specs.Counts.{AreSendsCounted};
+ghost use Rattle.tko_client.specs.Keys.{HasStoppedAs, HaveActedOnOutcome};
 ghost use Rattle.tko_client.specs.Steps.{HasStayed, client_ghosts};
 
 use crate::Sends;
@@ -34,7 +34,7 @@ pub(crate) fn take_keys<R: IoRuntime, H: Health, T: Trails, C>(
     requires ready { AreSettled parts.old.config keys.old }
     requires awaits { IsSome (first_send server keys.old.sends) }
     requires sent { is_sent outcome ≡ true }
-    ensures taken { HaveCome (client_ghosts H.Health T.Trails) false server (Ok outcome)
+    ensures taken { HaveActedOnOutcome (client_ghosts H.Health T.Trails) false server (Ok outcome)
         (keys.old, parts.old) (keys.new, parts.new) }
     ensures stays { HasStayed H.servers parts.old parts.new }
 {
@@ -53,7 +53,7 @@ fn count_keys<R: IoRuntime, H, T: Trails, C>(
     requires links { server < length parts.old.backend.links }
     requires awaits { IsSome (first_send server keys.now.sends) }
     ensures { IfSome (keys_first server keys.now)
-        (λ count. AreCounted server count parts.old parts.new) }
+        (λ count. AreSendsCounted server count parts.old parts.new) }
 {
     count_sends(rt, parts, server, keys.keys_to(server));
 }
@@ -72,7 +72,7 @@ pub(crate) fn stop_keys<R: IoRuntime, H: Health, T: Trails, C>(
     requires room { slice_index parts.old.backend.links server ≢ most_sends }
     requires ready { AreSettled parts.old.config keys.old }
     requires awaits { IsSome (first_send server keys.old.sends) }
-    ensures taken { HaveCome (client_ghosts H.Health T.Trails) unsent server
+    ensures taken { HaveActedOnOutcome (client_ghosts H.Health T.Trails) unsent server
         (Err (record { sent = false })) (keys.old, parts.old) (keys.new, parts.new) }
     ensures stays { HasStayed H.servers parts.old parts.new }
 {

@@ -4,10 +4,10 @@ ghost use Rattle.tko_model.specs.Records.{Gains};
 ghost use Rattle.tko_reply.specs.Interactions.{Interacts};
 ghost use Rattle.tko_session.specs.Acts.{recorded_after};
 ghost use Rattle.tko_session.specs.Awaiting.{awaited_in};
-ghost use Rattle.tko_session.specs.Driven.{IsAwaiting, IsReady, MayGoOn};
+ghost use Rattle.tko_session.specs.Driven.{IsAwaiting, IsSessionReady, MayGoOn};
 ghost use Rattle.tko_session.specs.Working.{Between};
 ghost use Rattle.tko_client.specs.Answerings.{IsOwn};
-ghost use Rattle.tko_client.specs.Steps.{BeganAt, HasStayed, IsLost, IsLostTaking, IsOfSession, IsStepped, IsTaken, IsUnrecorded, WentReading, asked_in, client_ghosts, phase_of, went_from, went_of};
+ghost use Rattle.tko_client.specs.Steps.{BeganAt, HasStayed, IsLost, IsLostTaking, IsOfSession, IsOutcomeTaken, IsStepped, IsUnrecorded, WentReading, client_ghosts, phase_of, server_asked_in, went_from, went_of};
 
 use crate::Sends;
 use std::alloc::Global;
@@ -50,18 +50,18 @@ pub(crate) fn go_once<R: IoRuntime, H: Health, T: Trails, C>(
     told: &mut usize,
 ) -> Result<Went, NoMemory>
     requires servers { H.servers parts.old.backend.health ≡ length parts.old.config.addresses }
-    requires ready { IsReady parts.old.config session.old }
+    requires ready { IsSessionReady parts.old.config session.old }
     requires may { MayGoOn session.old.work }
     ensures ok { IfOk result (λ went. IsStepped (client_ghosts H.Health T.Trails) (phase_of went)
         (session.old, parts.old) (session.new, parts.new)) }
-    ensures asks { IfOk result (λ went. awaited_in session.new.work ≡ asked_in went) }
+    ensures asks { IfOk result (λ went. awaited_in session.new.work ≡ server_asked_in went) }
     ensures own { IfOk result (λ went. IsOwn session.new.work) }
     ensures goes { IfOk result (λ went. IsOfSession went) }
     ensures reading { IfOk result (λ went. WentReading went session.new.reading) }
     ensures err { OnErr result (IsLost (client_ghosts H.Health T.Trails)
         (session.old, parts.old) (session.new, parts.new)) }
     ensures between { OnErr result (session.new.work ≡ Between) }
-    ensures ready { IsReady parts.new.config session.new }
+    ensures ready { IsSessionReady parts.new.config session.new }
     ensures stays { HasStayed H.servers parts.old parts.new }
 {
     match session.next(rt, alloc, &mut parts.backend.health, &parts.config) {
@@ -80,18 +80,18 @@ pub(crate) fn take_once<R: IoRuntime, H: Health, T: Trails, C>(
     outcome: Outcome,
 ) -> Result<Went, NoMemory>
     requires servers { H.servers parts.old.backend.health ≡ length parts.old.config.addresses }
-    requires ready { IsReady parts.old.config session.old }
+    requires ready { IsSessionReady parts.old.config session.old }
     requires awaits { IsAwaiting session.old.work }
-    ensures ok { IfOk result (λ went. IsTaken (client_ghosts H.Health T.Trails) outcome
+    ensures ok { IfOk result (λ went. IsOutcomeTaken (client_ghosts H.Health T.Trails) outcome
         (phase_of went) (session.old, parts.old) (session.new, parts.new)) }
-    ensures asks { IfOk result (λ went. awaited_in session.new.work ≡ asked_in went) }
+    ensures asks { IfOk result (λ went. awaited_in session.new.work ≡ server_asked_in went) }
     ensures own { IfOk result (λ went. IsOwn session.new.work) }
     ensures goes { IfOk result (λ went. IsOfSession went) }
     ensures reading { IfOk result (λ went. WentReading went session.new.reading) }
     ensures err { OnErr result (IsLostTaking (client_ghosts H.Health T.Trails) outcome
         (session.old, parts.old) (session.new, parts.new)) }
     ensures between { OnErr result (session.new.work ≡ Between) }
-    ensures ready { IsReady parts.new.config session.new }
+    ensures ready { IsSessionReady parts.new.config session.new }
     ensures stays { HasStayed H.servers parts.old parts.new }
 {
     match session.answered(rt, &mut parts.backend.health, &parts.config, outcome) {

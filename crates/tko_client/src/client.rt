@@ -14,14 +14,14 @@ use tko_io::IoRuntime;
 use tko_keys::KeyPlan;
 use tko_model::Clear;
 use tko_mux::Came;
-use tko_port::{Stage, Talking, Tally};
+use tko_port::{SessionStage, Talking, Tally};
 use tko_route::Health;
 use tko_session::Trails;
 use tko_text::Request;
 
 /// How a client stands.
 #[derive(Clone, Copy, Debug, PartialEq, Eq)]
-pub enum Course {
+pub enum ClientStanding {
     /// It can go on, also while requests of it are under way.
     Going,
     /// Requests of it are under way, and it can do nothing before something comes for one of them.
@@ -44,7 +44,7 @@ pub enum Course {
 #[derive(Drop)]
 pub struct EventClient {
     answering: Answering,
-    course: Course,
+    course: ClientStanding,
     /// How many bytes of its replies were written; the greatest number means that many or more.
     taken: u64,
 }
@@ -58,13 +58,13 @@ impl EventClient {
     {
         EventClient {
             answering: Answering::new(alloc, plan),
-            course: Course::Going,
+            course: ClientStanding::Going,
             taken: 0,
         }
     }
 
     /// How it stands.
-    pub fn course(&self) -> Course
+    pub fn course(&self) -> ClientStanding
         ensures { result ≡ self.now.course }
     {
         self.course
@@ -100,26 +100,30 @@ impl<'r, R: IoRuntime, H: Health, T: Trails, C> Talking<Lent<'r, R, H, T, C>> fo
 
     fn go_on(&mut self, lent: &mut Lent<'r, R, H, T, C>) -> Result<Option<Clear>, NoMemory> {
         match self.course {
-            Course::Going | Course::Full | Course::NeedsInput => {}
-            Course::Waits | Course::Ended | Course::Over | Course::TooLong => return Ok(None),
-            Course::Short => return Err(NoMemory),
+            ClientStanding::Going | ClientStanding::Full | ClientStanding::NeedsInput => {}
+            ClientStanding::Waits
+            | ClientStanding::Ended
+            | ClientStanding::Over
+            | ClientStanding::TooLong => return Ok(None),
+            ClientStanding::Short => return Err(NoMemory),
         }
         let halt = go_on(lent.rt, lent.alloc, &mut self.answering, &mut lent.parts);
         self.course = halt.course;
         match halt.course {
-            Course::Short => Err(NoMemory),
+            ClientStanding::Short => Err(NoMemory),
             _ => Ok(halt.asked),
         }
     }
 
-    fn stage(&self) -> Stage {
+    fn stage(&self) -> SessionStage {
         match self.course {
-            Course::Going => Stage::Going,
-            Course::Waits => Stage::Waits,
-            Course::Full => Stage::Full,
-            Course::NeedsInput => Stage::NeedsInput,
-            Course::Ended | Course::Over | Course::Short => Stage::Over,
-            Course::TooLong => Stage::TooLong,
+            ClientStanding::Going => SessionStage::Going,
+            ClientStanding::Waits => SessionStage::Waits,
+            ClientStanding::Full => SessionStage::Full,
+            ClientStanding::NeedsInput => SessionStage::NeedsInput,
+            ClientStanding::Ended | ClientStanding::Over | ClientStanding::Short =>
+                SessionStage::Over,
+            ClientStanding::TooLong => SessionStage::TooLong,
         }
     }
 
@@ -149,7 +153,7 @@ impl<'r, R: IoRuntime, H: Health, T: Trails, C> Talking<Lent<'r, R, H, T, C>> fo
     }
 
     fn end(&mut self, _lent: &mut Lent<'r, R, H, T, C>) {
-        self.course = Course::Ended;
+        self.course = ClientStanding::Ended;
     }
 
     fn take(

@@ -2,7 +2,7 @@
 ghost use Rattle.std.specs.Prelude.{◌≡◌, ◌≢◌, ◌+◌, ◌<◌, ℕ, true, length, slice_index};
 ghost use Rattle.tko_links.specs.Links.{most_sends, part_of};
 ghost use Rattle.tko_reply.specs.Interactions.{with_links};
-ghost use Rattle.tko_client.specs.Counts.{AreCounted};
+ghost use Rattle.tko_client.specs.Counts.{AreSendsCounted};
 
 use crate::Sends;
 use tko_io::IoRuntime;
@@ -17,7 +17,7 @@ pub(crate) fn count_sends<R: IoRuntime, H, T: Trails, C>(
     keys: usize,
 )
     requires { server < length parts.old.backend.links }
-    ensures { AreCounted server keys parts.old parts.new }
+    ensures { AreSendsCounted server keys parts.old parts.new }
 {
     for _ in 0..keys {
         count_send(rt, parts, server);

@@ -2,7 +2,7 @@
 ghost use Rattle.std.specs.Prelude.{◌≡◌, ◌≢◌, [], length};
 ghost use Rattle.std.specs.Bool.{OnTrue};
 ghost use Rattle.tko_session.specs.Outgoing.{outgoing};
-ghost use Rattle.tko_client.specs.Answerings.{IsAnsweringReady, IsIdle, MayCall};
+ghost use Rattle.tko_client.specs.Answerings.{IsAnsweringReady, IsClientIdle, MayCallClient};
 ghost use Rattle.tko_client.specs.Calls.{IsCalled, IsHalted};
 ghost use Rattle.tko_client.specs.Steps.{client_ghosts};
 
@@ -11,7 +11,7 @@ use crate::calls::{Went, go_once};
 use crate::halt::Halt;
 use crate::handing::{end_keys, hand_over};
 use crate::keys::begin_key;
-use crate::{Course, Sends};
+use crate::{ClientStanding, Sends};
 use std::alloc::Global;
 use tko_io::IoRuntime;
 use tko_route::Health;
@@ -30,14 +30,14 @@ pub(crate) fn go_on<R: IoRuntime, H: Health, T: Trails, C>(
 ) -> Halt
     requires servers { H.servers parts.old.backend.health ≡ length parts.old.config.addresses }
     requires ready { IsAnsweringReady parts.old.config it.old }
-    requires may { MayCall it.old }
+    requires may { MayCallClient it.old }
     ensures { IsHalted (client_ghosts H.Health T.Trails) H.servers result.course result.asked
         (it.old, parts.old) (it.new, parts.new) }
 {
     for _ in 0..CALLS {
         if is_to_write(it) {
             return Halt {
-                course: Course::Full,
+                course: ClientStanding::Full,
                 asked: None,
             };
         }
@@ -47,7 +47,7 @@ pub(crate) fn go_on<R: IoRuntime, H: Health, T: Trails, C>(
         }
     }
     Halt {
-        course: Course::Going,
+        course: ClientStanding::Going,
         asked: None,
     }
 }
@@ -56,7 +56,7 @@ pub(crate) fn go_on<R: IoRuntime, H: Health, T: Trails, C>(
 /// since their replies are held whether or not those before are written.
 fn is_to_write(it: &Answering) -> bool
     ensures some { OnTrue result (outgoing it.now.session ≢ []) }
-    ensures idle { OnTrue result (MayCall it.now → IsIdle it.now) }
+    ensures idle { OnTrue result (MayCallClient it.now → IsClientIdle it.now) }
 {
     it.keys.is_none() && it.session.is_full() && has_output(&it.session)
 }
@@ -78,7 +78,7 @@ fn call_once<R: IoRuntime, H: Health, T: Trails, C>(
 ) -> Went
     requires servers { H.servers parts.old.backend.health ≡ length parts.old.config.addresses }
     requires ready { IsAnsweringReady parts.old.config it.old }
-    requires may { MayCall it.old }
+    requires may { MayCallClient it.old }
     ensures { IsCalled (client_ghosts H.Health T.Trails) H.servers result (it.old, parts.old)
         (it.new, parts.new) }
 {
@@ -109,7 +109,7 @@ fn call_session<R: IoRuntime, H: Health, T: Trails, C>(
 ) -> Went
     requires servers { H.servers parts.old.backend.health ≡ length parts.old.config.addresses }
     requires ready { IsAnsweringReady parts.old.config it.old }
-    requires idle { IsIdle it.old }
+    requires idle { IsClientIdle it.old }
     ensures { IsCalled (client_ghosts H.Health T.Trails) H.servers result (it.old, parts.old)
         (it.new, parts.new) }
 {

@@ -3,9 +3,9 @@ ghost use Rattle.std.specs.Prelude.{◌≡◌, ◌≢◌, ℕ, List, None};
 ghost use Rattle.tko_text.specs.Reading.{Reading};
 ghost use Rattle.tko_port.specs.Talks.{HasReplies};
 ghost use Rattle.tko_client.specs.Clients.{CourseReading, CourseStands, IsAsked, phase_at, stage_of};
-ghost use Rattle.tko_client.specs.Steps.{WentReading, WentStands, asked_in, phase_of};
+ghost use Rattle.tko_client.specs.Steps.{WentReading, WentStands, phase_of, server_asked_in};
 
-use crate::Course;
+use crate::ClientStanding;
 use crate::answering::Answering;
 use crate::calls::Went;
 use tko_model::Clear;
@@ -14,7 +14,7 @@ use tko_model::Clear;
 #[derive(Debug, Drop)]
 pub(crate) struct Halt {
     /// How the client stands.
-    pub course: Course,
+    pub course: ClientStanding,
     /// The permission to send its request once, if it asks a server.
     pub asked: Option<Clear>,
 }
@@ -24,7 +24,7 @@ impl Halt {
     pub(crate) fn after(it: &Answering, went: Went) -> Halt
         ensures stands { WentStands went it.now → CourseStands result.course it.now }
         ensures phase { phase_at result.course ≡ phase_of went }
-        ensures asked { result.asked ≡ asked_in went }
+        ensures asked { result.asked ≡ server_asked_in went }
         ensures short { result.course ≡ Course.Short → result.asked ≡ None }
         ensures reading { (reading : Reading) → WentReading went reading
             → CourseReading result.course reading }
@@ -36,27 +36,27 @@ impl Halt {
                 asked: Some(clear),
             },
             Went::On => Halt {
-                course: Course::Going,
+                course: ClientStanding::Going,
                 asked: None,
             },
             Went::Waits => Halt {
-                course: Course::Waits,
+                course: ClientStanding::Waits,
                 asked: None,
             },
             Went::NeedsInput => Halt {
-                course: Course::NeedsInput,
+                course: ClientStanding::NeedsInput,
                 asked: None,
             },
             Went::Over => Halt {
-                course: Course::Over,
+                course: ClientStanding::Over,
                 asked: None,
             },
             Went::TooLong => Halt {
-                course: Course::TooLong,
+                course: ClientStanding::TooLong,
                 asked: None,
             },
             Went::Short => Halt {
-                course: Course::Short,
+                course: ClientStanding::Short,
                 asked: None,
             },
         }
@@ -64,12 +64,12 @@ impl Halt {
 }
 
 /// How a client stands that asks a server.
-fn course_asking(it: &Answering) -> Course
+fn course_asking(it: &Answering) -> ClientStanding
     ensures { IsAsked result it.now }
 {
     if it.may_do_more() {
-        Course::Going
+        ClientStanding::Going
     } else {
-        Course::Waits
+        ClientStanding::Waits
     }
 }

@@ -31,8 +31,8 @@ pub(crate) fn hand_over(alloc: Global, it: &mut Answering) -> Option<Went>
     }
 }
 
-/// Ends a request whose keys are complete: its reply is taken, or memory ran out for one of them and
-/// it is dropped.
+/// Ends a request whose keys are complete: its reply is taken, or memory ran out for one of them
+/// and it is dropped.
 pub(crate) fn end_keys(it: &mut Answering) -> Went
     requires { AreKeysComplete it.old }
     ensures { HasEndedKeys result it.old it.new }

@@ -22,7 +22,7 @@ mod lent;
 mod sends;
 mod taking;
 
-pub use client::{Course, EventClient};
+pub use client::{ClientStanding, EventClient};
 pub use law::each_lives;
 pub use lent::Lent;
 pub use sends::Sends;

@@ -2,14 +2,14 @@
 ghost use Rattle.std.specs.Prelude.{◌≡◌, ◌<◌, false, true, Err, IfErr, IfOk, IsOk, IsSome, None, Ok, length};
 ghost use Rattle.tko_links.specs.Links.{is_sent};
 ghost use Rattle.tko_reply.specs.Interactions.{with_noted};
-ghost use Rattle.tko_reply.specs.Standing.{Asking};
+ghost use Rattle.tko_reply.specs.Standing.{SentKey};
 ghost use Rattle.tko_mux.specs.Awaits.{times_due};
 ghost use Rattle.tko_session.specs.Driven.{IsAwaiting, dropped};
 ghost use Rattle.tko_session.specs.Working.{Awaits};
-ghost use Rattle.tko_client.specs.Answerings.{IsAnsweringReady, awaited_by};
+ghost use Rattle.tko_client.specs.Answerings.{IsAnsweringReady, awaited_by_client};
 ghost use Rattle.tko_client.specs.Calls.{IsTakenAs, IsTakenTo};
 ghost use Rattle.tko_client.specs.Comings.{is_unsent, result_of};
-ghost use Rattle.tko_client.specs.Steps.{HasStayed, asked_in, client_ghosts};
+ghost use Rattle.tko_client.specs.Steps.{HasStayed, client_ghosts, server_asked_in};
 
 use crate::Sends;
 use crate::answering::Answering;
@@ -37,7 +37,7 @@ pub(crate) fn take<R: IoRuntime, H: Health, T: Trails, C>(
     requires servers { H.servers parts.old.backend.health ≡ length parts.old.config.addresses }
     requires links { length parts.old.backend.links ≡ length parts.old.config.addresses }
     requires ready { IsAnsweringReady parts.old.config it.old }
-    requires awaits { 0 < times_due (awaited_by it.old) server }
+    requires awaits { 0 < times_due (awaited_by_client it.old) server }
     ensures taken { IsTakenTo (client_ghosts H.Health T.Trails) H.servers (is_unsent came) server
         (result_of came) result.course result.asked (it.old, parts.old) (it.new, parts.new) }
     ensures sent { IsSome result.asked → IsOk (result_of came) }
@@ -85,7 +85,7 @@ fn take_in<R: IoRuntime, H: Health, T: Trails, C>(
     requires servers { H.servers parts.old.backend.health ≡ length parts.old.config.addresses }
     requires links { length parts.old.backend.links ≡ length parts.old.config.addresses }
     requires ready { IsAnsweringReady parts.old.config it.old }
-    requires awaits { 0 < times_due (awaited_by it.old) server }
+    requires awaits { 0 < times_due (awaited_by_client it.old) server }
     requires sent { is_sent outcome ≡ true }
     ensures { IsTakenAs (client_ghosts H.Health T.Trails) H.servers false server (Ok outcome) result
         (it.old, parts.old) (it.new, parts.new) }
@@ -118,10 +118,10 @@ fn stop<R: IoRuntime, H: Health, T: Trails, C>(
     requires servers { H.servers parts.old.backend.health ≡ length parts.old.config.addresses }
     requires links { length parts.old.backend.links ≡ length parts.old.config.addresses }
     requires ready { IsAnsweringReady parts.old.config it.old }
-    requires awaits { 0 < times_due (awaited_by it.old) server }
+    requires awaits { 0 < times_due (awaited_by_client it.old) server }
     ensures taken { IsTakenAs (client_ghosts H.Health T.Trails) H.servers unsent server
         (Err (record { sent = false })) result (it.old, parts.old) (it.new, parts.new) }
-    ensures none { asked_in result ≡ None }
+    ensures none { server_asked_in result ≡ None }
 {
     tell_unsent(rt, parts, server);
     match &mut it.keys {
@@ -145,10 +145,10 @@ fn stop_session<R: IoRuntime, H: Health, T: Trails, C>(
 )
     requires awaits { IsAwaiting session.old.work }
     ensures dropped { session.new ≡ dropped session.old }
-    ensures noted { (it : Asking) → session.old.work ≡ Awaits it
+    ensures noted { (it : SentKey) → session.old.work ≡ Awaits it
         → parts.new ≡ with_noted it.waiting.attempts parts.old }
     ensures stays { HasStayed H.servers parts.old parts.new }
 {
-    let dropped = session.stop(tko_links::NoMemory { sent: false });
+    let dropped = session.stop(tko_links::ExchangeNoMemory { sent: false });
     let _ = observe_drop(rt, parts, told, &dropped);
 }

@@ -12,7 +12,7 @@ use tko_model::{OneGroup, Plain};
 use tko_mux::{Delivery, Mux};
 use tko_pipe::ShutCause;
 use tko_pools::Config;
-use tko_port::{End, Event, Guest, MemoryPort, Presence, Shared, Turned};
+use tko_port::{ClientEvent, End, Guest, MemoryPort, Presence, SharedParts, Turned};
 use tko_prober::{Backend, Delays, Probers};
 use tko_route::PlainHealth;
 use tko_session::{Kept, Parts};
@@ -29,7 +29,10 @@ const SETTINGS: OneGroup = OneGroup {
 
 pub(crate) type MemoryLent<'r, R> = Lent<'r, R, PlainHealth, Kept, FrozenClock>;
 
-pub(crate) type MemoryMux<'r, R> = Mux<Guest<MemoryPort, EventClient>, Shared<MemoryLent<'r, R>>>;
+pub(crate) type MemoryMux<'r, R> = Mux<
+    Guest<MemoryPort, EventClient>,
+    SharedParts<MemoryLent<'r, R>>,
+>;
 
 /// The parts of a worker of two servers.
 fn parts(alloc: Global) -> Result<Parts<PlainHealth, Sends, Kept, FrozenClock>, Fail> {
@@ -71,7 +74,7 @@ pub(crate) fn two_clients_with<'r, R: Wait + Net<Stream = TcpStream> + Clock>(
     room: usize,
     plan: KeyPlan,
 ) -> Result<MemoryMux<'r, R>, Fail> {
-    let shared = Shared {
+    let shared = SharedParts {
         parts: Lent::new(rt, alloc, parts(alloc)?),
         buffer: vec![in alloc; 0; 64]?,
     };
@@ -95,8 +98,8 @@ pub(crate) fn serve_both<'r, R: Wait + Net<Stream = TcpStream> + Clock>(
 ) {
     for number in 0..2 {
         for _ in 0..100 {
-            mux.act(alloc, number, Event::Writable, 0);
-            match mux.act(alloc, number, Event::Serve, 0) {
+            mux.act(alloc, number, ClientEvent::Writable, 0);
+            match mux.act(alloc, number, ClientEvent::Serve, 0) {
                 Some(done) if is_to_serve(done.did) => {}
                 _ => break,
             }
@@ -212,8 +215,8 @@ fn end_of<'r, R: Wait + Net<Stream = TcpStream> + Clock>(
     mux: &mut MemoryMux<'r, R>,
 ) -> Option<End> {
     for _ in 0..200 {
-        mux.act(alloc, 0, Event::Writable, 0);
-        match mux.act(alloc, 0, Event::Serve, 0)?.did {
+        mux.act(alloc, 0, ClientEvent::Writable, 0);
+        match mux.act(alloc, 0, ClientEvent::Serve, 0)?.did {
             Turned::Ends(why) => return Some(why),
             Turned::Spent | Turned::Rests => {}
             _ => return None,

@@ -23,10 +23,10 @@ use Rattle.tko_commands.specs.declared.fault.Fault.TheVariants as fault
 use Rattle.tko_options.specs.declared.dry_options.DryOptions.{DryOptions}
 use Rattle.tko_commands.specs.Configured.{ConfigOf, IsConfigured, IsUnset, NoConfig, scripted_names}
 use Rattle.tko_options.specs.Trackers.{dry_settings}
-use Rattle.tko_commands.specs.DryRuns.{AreFresh, Begins, DryFails, DryParts, IsDry, IsOutside, TrailsGo, at_first, before_trails, dry_effects, dry_tracker, in_replies, in_session, in_trails, words_in}
+use Rattle.tko_commands.specs.DryRuns.{AreFresh, BeginsDryRun, DryFails, DryParts, IsDry, IsOutside, TrailsGo, at_first, before_trails, dry_effects, dry_tracker, in_replies, in_session, in_trails, words_in}
 use Rattle.tko_commands.specs.Grouped.{NoSettings}
 use Rattle.tko_commands.specs.Faults.{fault_of_opening, fault_of_outcomes, fault_of_session}
-use Rattle.tko_commands.specs.Outcomes.{AllAsk, Refuses}
+use Rattle.tko_commands.specs.Outcomes.{AllAsk, RefusesOutcomes}
 use Rattle.tko_commands.specs.Texts.{WritesFront, trails_text}
 use Rattle.tko_commands.specs.declared.outcomes.OutcomesFault.{OutcomesFault}
 use Rattle.tko_commands.specs.declared.outcomes.OutcomesFault.TheVariants as outcomes_fault
@@ -52,7 +52,7 @@ pub begun : (options : DryOptions) (scripts : List Script) (config : Configurati
     → AllAsk (words_in options) scripts → IsConfigured options config
     → tracker ≡ opened (dry_tracker options config)
     → AreFresh scripts config tracker parts
-    → Begins options parts
+    → BeginsDryRun options parts
 begun options scripts config tracker parts asked configured opens is =
     let P : Configuration → Type 0 = λ it. IsConfigured options it in
     let Q : Tracker → Type 0 = λ it. AreFresh scripts config it parts in
@@ -65,7 +65,7 @@ begun options scripts config tracker parts asked configured opens is =
     }
 
 -- the tracker, the links and the probers have the servers of the configuration
-pub begun_reaches : (options : DryOptions) (parts : DryParts) → Begins options parts
+pub begun_reaches : (options : DryOptions) (parts : DryParts) → BeginsDryRun options parts
     → Reaches (λ health. length health.tracker.servers) (λ links. length links.sends) parts
 begun_reaches options parts begun =
     record {
@@ -77,7 +77,7 @@ begun_reaches options parts begun =
 module _ {I O : Type 0} (inlet : InletGhosts I) (outlet : OutletGhosts O) where
   -- a session over these parts and the printing of its trails are a dry run
   pub is_dry : (options : DryOptions) (old : I) (from : O) (new : I) (middle to : O) (before after : DryParts) (report : Report)
-      → Begins options before
+      → BeginsDryRun options before
       → Served (serving inlet outlet dry_effects) (context old from before) report (context new middle after)
       → TrailsGo outlet.takes options.trail after.trails middle to
       → IsDry inlet outlet options (old, from) (new, to)
@@ -94,7 +94,7 @@ module _ {I O : Type 0} (inlet : InletGhosts I) (outlet : OutletGhosts O) where
 
   -- the session ended before its input did
   pub session_failed : (options : DryOptions) (cause : SessionFault) (old : I) (from : O) (new : I) (to : O) (before after : DryParts)
-      → Begins options before
+      → BeginsDryRun options before
       → SessionStops (serving inlet outlet dry_effects) (context old from before) cause (context new to after)
       → DryFails inlet outlet options (old, from) (new, to) (fault_of_session cause)
   session_failed options session_fault.Read old from new to before after begun stops =
@@ -108,7 +108,7 @@ module _ {I O : Type 0} (inlet : InletGhosts I) (outlet : OutletGhosts O) where
 
   -- memory ran out before the first line of the trails
   pub no_lines : (options : DryOptions) (old : I) (from : O) (new : I) (to : O) (before after : DryParts) (report : Report)
-      → Begins options before
+      → BeginsDryRun options before
       → Served (serving inlet outlet dry_effects) (context old from before) report (context new to after)
       → IsCalm (serving inlet outlet dry_effects) (context old from before) (context new to after)
       → options.trail ≡ true
@@ -127,7 +127,7 @@ module _ {I O : Type 0} (inlet : InletGhosts I) (outlet : OutletGhosts O) where
 
   -- the output failed in the lines of the trails
   pub trails_cut : (options : DryOptions) (old : I) (from : O) (new : I) (middle to : O) (before after : DryParts) (report : Report)
-      → Begins options before
+      → BeginsDryRun options before
       → Served (serving inlet outlet dry_effects) (context old from before) report (context new middle after)
       → IsCalm (serving inlet outlet dry_effects) (context old from before) (context new middle after)
       → options.trail ≡ true → WritesFront outlet.takes (trails_text 1 after.trails) middle to
@@ -152,7 +152,7 @@ module _ {I O : Type 0} (inlet : InletGhosts I) (outlet : OutletGhosts O) where
       })
 
   -- the list of outcomes has no scripts, so nothing was read or written
-  pub not_listed : (options : DryOptions) (here : I × O) (cause : OutcomesFault) → Refuses (words_in options) cause
+  pub not_listed : (options : DryOptions) (here : I × O) (cause : OutcomesFault) → RefusesOutcomes (words_in options) cause
       → DryFails inlet outlet options here here (fault_of_outcomes cause)
   not_listed options here (outcomes_fault.Word number) bad = (bad, refl, refl)
   not_listed options here outcomes_fault.Memory bad = at_first refl refl

@@ -1,7 +1,7 @@
 -- What was written for a fault.
 use Rattle.std.proofs.Common.{◌≡◌, ℕ, ◌<◌, List, refl, subst, IfErr, IsOk, OnErr, OnOk, Result, Ok, Err}
 use Rattle.tko_commands.specs.declared.fault.Fault.{Fault}
-use Rattle.tko_commands.specs.FaultLines.{IsReasonTold, IsFaultWritten, Written, Failed, HasLine}
+use Rattle.tko_commands.specs.FaultLines.{IsReasonTold, IsFaultWritten, Written, Failed, HasFaultLine}
 use Rattle.tko_commands.specs.Reasons.{HasLineOf, LeftOut}
 
 -- what holds where it is Ok
@@ -45,7 +45,7 @@ of_err P (Ok value) error is holds = absurd (cc)
 of_err P (Err cause) error is holds = let same : cause ≡ error = cc in subst P same holds
 
 pub is_fault_written : {O T E : Type 0} (takes : O → List ℕ → O → Type 0) (failures : O → ℕ) (reason : Fault) (old new : O)
-    (result : Result T E) → OnOk result (HasLine takes reason old new) → OnErr result (failures old < failures new)
+    (result : Result T E) → OnOk result (HasFaultLine takes reason old new) → OnErr result (failures old < failures new)
     → IsFaultWritten takes failures reason old new
 is_fault_written takes failures reason old new (Ok value) line failed = Written line
 is_fault_written takes failures reason old new (Err error) line failed = Failed failed

@@ -11,12 +11,12 @@ use Rattle.tko_runs.specs.Prints.{run_text}
 use Rattle.tko_runs.specs.Schedules.{Plan, reads}
 use Rattle.tko_runs.specs.Runs.{RunData}
 use Rattle.tko_commands.specs.Readings.{IsText}
-use Rattle.tko_commands.specs.Replays.{IsReplay, Replays, most_read}
+use Rattle.tko_commands.specs.Replays.{IsPrintedReplay, ReplaysSchedule, most_read}
 
 pub is_replay : (text printed : List ℕ) (plan : Plan) (run : RunData) (order : List Point)
     → reads text ≡ Ok plan → run ≡ named_by plan
     → IsOrderOf run order → printed ≡ run_text run order
-    → IsReplay text printed
+    → IsPrintedReplay text printed
 unfolding named_by
 is_replay text printed plan run order schedule named stands prints =
     let P : RunData → Type 0 = λ (it : RunData). IsOrderOf it order in
@@ -46,8 +46,8 @@ ended_before count most (inr reached) below = absurd (omega (arith, reached, bel
 -- a schedule was read to the end of the input, and what is printed of it went out
 pub replays : {I O : Type 0} (gives : I → List ℕ → I → Type 0) (is_ended : I → Type 0) (takes : O → List ℕ → O → Type 0)
     (old : I) (from : O) (new : I) (to : O) (text printed : List ℕ) → IsText gives is_ended most_read old new text
-    → IsReplay text printed → takes from printed to
-    → Replays gives is_ended takes old from new to
+    → IsPrintedReplay text printed → takes from printed to
+    → ReplaysSchedule gives is_ended takes old from new to
 replays gives is_ended takes old from new to text printed read replay went =
     record {
       text = text;

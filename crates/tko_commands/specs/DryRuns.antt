@@ -79,7 +79,7 @@ dry_tracker options config = grouped config (dry_settings options (length config
 
 -- the parts that a dry run begins with: the configuration that the options name, a new tracker of
 -- its servers, and the scripts that the list of outcomes asks for
-pub record Begins (options : DryOptions) (parts : DryParts) : Type 0 where
+pub record BeginsDryRun (options : DryOptions) (parts : DryParts) : Type 0 where
   pub scripts : List Script
   pub asked : AllAsk (words_in options) scripts
   pub config : IsConfigured options parts.config
@@ -103,8 +103,8 @@ pub record IsOutside (options : DryOptions) (name : SettingsFault) : Type 0 wher
       first_fault (in_one_group (dry_settings options (length config.addresses))) ≡ Some name
 
 -- the number of sends to a server
-abbrev pub sends_of : ScriptedState → ℕ → ℕ
-sends_of links server = slice_index links.sends server
+abbrev pub scripted_sends : ScriptedState → ℕ → ℕ
+scripted_sends links server = slice_index links.sends server
 
 -- the number of probes of a server
 abbrev pub probes_of : ScriptedState → ℕ → ℕ
@@ -117,7 +117,7 @@ dry_ghosts = record {
     steps = IsTrackerStep;
     grants = IsGranted;
     exchanges = IsPlayed;
-    sent = sends_of;
+    sent = scripted_sends;
     probed = probes_of;
     reads = IsFrozen;
   };
@@ -142,7 +142,7 @@ pub record IsDry {I O : Type 0} (inlet : InletGhosts I) (outlet : OutletGhosts O
   pub after : DryParts
   pub report : Report
   pub middle : O
-  pub begins : Begins options before
+  pub begins : BeginsDryRun options before
   pub served : Served (serving inlet outlet dry_effects)
       (context old.0 old.1 before) report (context new.0 middle after)
   pub trails : TrailsGo outlet.takes options.trail after.trails middle new.1
@@ -154,7 +154,7 @@ module _ {I O : Type 0} (inlet : InletGhosts I) (outlet : OutletGhosts O)
   pub record SessionFails (cause : SessionFault) (old new : I × O) : Type 0 where
     pub before : DryParts
     pub after : DryParts
-    pub begins : Begins options before
+    pub begins : BeginsDryRun options before
     pub stops : SessionStops (serving inlet outlet dry_effects)
         (context old.0 old.1 before) cause (context new.0 new.1 after)
 
@@ -164,7 +164,7 @@ module _ {I O : Type 0} (inlet : InletGhosts I) (outlet : OutletGhosts O)
     pub before : DryParts
     pub after : DryParts
     pub report : Report
-    pub begins : Begins options before
+    pub begins : BeginsDryRun options before
     pub served : Served (serving inlet outlet dry_effects)
         (context old.0 old.1 before) report (context middle.0 middle.1 after)
     pub calm : IsCalm (serving inlet outlet dry_effects)

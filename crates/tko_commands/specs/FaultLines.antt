@@ -10,15 +10,15 @@ abbrev pub fault_bytes : Fault → List ℕ
 fault_bytes reason = fault_line reason ++ codes "\n"
 
 -- the line of the fault was written, or that of running out of memory
-abbrev pub HasLine : {O : Type 0} → (O → List ℕ → O → Type 0) → Fault → O → O → Type 0
-HasLine takes reason old new =
+abbrev pub HasFaultLine : {O : Type 0} → (O → List ℕ → O → Type 0) → Fault → O → O → Type 0
+HasFaultLine takes reason old new =
     takes old (fault_bytes reason) new ⊎ takes old (fault_bytes fault.Memory) new
 
 -- the line of the fault was written, or that of running out of memory, and nothing else; or the
 -- outlet failed
 pub data IsFaultWritten {O : Type 0} (takes : O → List ℕ → O → Type 0) (failures : O → ℕ)
     (reason : Fault) (old new : O) : Type 0 where
-  Written : HasLine takes reason old new → IsFaultWritten takes failures reason old new
+  Written : HasFaultLine takes reason old new → IsFaultWritten takes failures reason old new
   Failed : failures old < failures new → IsFaultWritten takes failures reason old new
 
 -- a fault came, of which this is known; a line may say why, and then the line of that fault was

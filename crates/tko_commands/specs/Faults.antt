@@ -18,8 +18,8 @@ use Rattle.tko_commands.specs.declared.listen_fault.ListenFault.{ListenFault}
 use Rattle.tko_commands.specs.declared.listen_fault.ListenFault.TheVariants as listen_fault
 use Rattle.tko_commands.specs.declared.outcomes.OutcomesFault.{OutcomesFault}
 use Rattle.tko_commands.specs.declared.outcomes.OutcomesFault.TheVariants as outcomes_fault
-use Rattle.tko_commands.specs.declared.reading.ReadFault.{ReadFault}
-use Rattle.tko_commands.specs.declared.reading.ReadFault.TheVariants as read_fault
+use Rattle.tko_commands.specs.declared.reading.InputFault.{InputFault}
+use Rattle.tko_commands.specs.declared.reading.InputFault.TheVariants as read_fault
 
 -- the word that names a setting
 abbrev pub setting_name : SettingsFault → List ℕ
@@ -95,7 +95,7 @@ fault_of_session session_fault.LineTooLong = fault.LineTooLong
 fault_of_session session_fault.Memory = fault.Memory
 
 -- of reading a text
-abbrev pub fault_of_reading : ReadFault → Fault
+abbrev pub fault_of_reading : InputFault → Fault
 fault_of_reading read_fault.Input = fault.Read
 fault_of_reading read_fault.Memory = fault.Memory
 

@@ -16,8 +16,8 @@ abbrev pub words_of : List ℕ → List (List ℕ)
 words_of list = if length list == 0 then [] else slice_split (λ byte. byte == 44) list
 
 -- the texts that references point to
-abbrev pub texts_of : List (Bor (List ℕ)) → List (List ℕ)
-texts_of words = map (λ word. word.now) words
+abbrev pub texts_pointed_to : List (Bor (List ℕ)) → List (List ℕ)
+texts_pointed_to words = map (λ word. word.now) words
 
 -- what follows a beginning of a word, where the word begins so
 abbrev pub text_after : List ℕ → List ℕ → Option (List ℕ)
@@ -69,21 +69,21 @@ first_bad words = position_from (λ word. not (is_outcome word)) 1 words
 
 -- what a word asks of a server: to refuse, to be silent, to break the connection, to answer a value
 -- of the asked key, or to answer these bytes
-abbrev pub Asks : List ℕ → Script → Type 0
-Asks word script.Refused = word ≡ codes "refused"
-Asks word script.Timeout = word ≡ codes "timeout"
-Asks word script.Broken = word ≡ codes "broken"
-Asks word (script.Hit text) = text_of_hit word ≡ Some text.items
-Asks word (script.Bytes bytes) = answer_asked word ≡ Some bytes.items
+abbrev pub NamesScript : List ℕ → Script → Type 0
+NamesScript word script.Refused = word ≡ codes "refused"
+NamesScript word script.Timeout = word ≡ codes "timeout"
+NamesScript word script.Broken = word ≡ codes "broken"
+NamesScript word (script.Hit text) = text_of_hit word ≡ Some text.items
+NamesScript word (script.Bytes bytes) = answer_asked word ≡ Some bytes.items
 
 -- each word asks for the script at its place
 abbrev pub AllAsk : List (List ℕ) → List Script → Type 0
 AllAsk [] [] = Unit {0}
 AllAsk [] (asked ∷ others) = ⊥
 AllAsk (word ∷ words) [] = ⊥
-AllAsk (word ∷ words) (asked ∷ others) = Asks word asked × AllAsk words others
+AllAsk (word ∷ words) (asked ∷ others) = NamesScript word asked × AllAsk words others
 
 -- its first bad word, or memory ran out
-abbrev pub Refuses : List (List ℕ) → OutcomesFault → Type 0
-Refuses words (fault.Word number) = first_bad words ≡ Some number
-Refuses words fault.Memory = Unit {0}
+abbrev pub RefusesOutcomes : List (List ℕ) → OutcomesFault → Type 0
+RefusesOutcomes words (fault.Word number) = first_bad words ≡ Some number
+RefusesOutcomes words fault.Memory = Unit {0}

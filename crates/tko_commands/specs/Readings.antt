@@ -1,7 +1,7 @@
 -- A text that was read from an inlet, and why one can't be read.
 use Rattle.std.specs.Prelude.{ℕ, ◌<◌, ◌≤◌, ◌⊎◌, List, length}
-use Rattle.tko_commands.specs.declared.reading.ReadFault.{ReadFault}
-use Rattle.tko_commands.specs.declared.reading.ReadFault.TheVariants as fault
+use Rattle.tko_commands.specs.declared.reading.InputFault.{InputFault}
+use Rattle.tko_commands.specs.declared.reading.InputFault.TheVariants as fault
 
 -- this is the input to its end, or `most` bytes of it
 pub record IsText {I : Type 0} (gives : I → List ℕ → I → Type 0) (is_ended : I → Type 0)
@@ -11,6 +11,6 @@ pub record IsText {I : Type 0} (gives : I → List ℕ → I → Type 0) (is_end
   pub whole : is_ended new ⊎ (most ≤ length text)
 
 -- the inlet failed, or memory ran out
-abbrev pub CannotRead : {I : Type 0} → (I → ℕ) → I → I → ReadFault → Type 0
-CannotRead failures old new fault.Input = failures old < failures new
-CannotRead failures old new fault.Memory = Unit {0}
+abbrev pub HasReadFault : {I : Type 0} → (I → ℕ) → I → I → InputFault → Type 0
+HasReadFault failures old new fault.Input = failures old < failures new
+HasReadFault failures old new fault.Memory = Unit {0}

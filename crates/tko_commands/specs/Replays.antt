@@ -18,7 +18,7 @@ most_read = max_bytes + 1
 
 -- a text is a schedule, and this is printed of the run that it names, with where each of its calls
 -- takes effect
-pub record IsReplay (text printed : List ℕ) : Type 0 where
+pub record IsPrintedReplay (text printed : List ℕ) : Type 0 where
   pub plan : Plan
   pub order : List Point
   pub schedule : reads text ≡ Ok plan
@@ -26,13 +26,13 @@ pub record IsReplay (text printed : List ℕ) : Type 0 where
   pub prints : printed ≡ run_text (named_by plan) order
 
 -- a schedule was read, to the end of the input, and what is printed of its run went out
-pub record Replays {I O : Type 0} (gives : I → List ℕ → I → Type 0) (is_ended : I → Type 0)
+pub record ReplaysSchedule {I O : Type 0} (gives : I → List ℕ → I → Type 0) (is_ended : I → Type 0)
     (takes : O → List ℕ → O → Type 0) (old : I) (from : O) (new : I) (to : O) : Type 0 where
   pub text : List ℕ
   pub printed : List ℕ
   pub came : gives old text new
   pub ended : is_ended new
-  pub replay : IsReplay text printed
+  pub replay : IsPrintedReplay text printed
   pub went : takes from printed to
 
 -- the text that was read, all of the input or one byte more than a schedule may have, is no

@@ -2,7 +2,7 @@
 
 use crate::Fault;
 use crate::outcomes::OutcomesFault;
-use crate::reading::ReadFault;
+use crate::reading::InputFault;
 use crate::writing::WriteFault;
 use std::alloc::AllocError;
 use tko_bytes::NoMemory;
@@ -91,16 +91,16 @@ impl From<SessionFault> for Fault {
     }
 }
 
-impl From<ReadFault> for Fault {
+impl From<InputFault> for Fault {
     ghost use Rattle.tko_commands.specs.Faults.{fault_of_reading};
     ghost use Rattle.std.specs.Prelude.{◌≡◌};
 
     ghost from_gives = { λ cause fault. fault ≡ fault_of_reading cause };
 
-    fn from(cause: ReadFault) -> Fault {
+    fn from(cause: InputFault) -> Fault {
         match cause {
-            ReadFault::Input => Fault::Read,
-            ReadFault::Memory => Fault::Memory,
+            InputFault::Input => Fault::Read,
+            InputFault::Memory => Fault::Memory,
         }
     }
 }

@@ -1,7 +1,7 @@
 //! The list of `--outcomes`: what the servers do, one after another.
 ghost use Rattle.std.specs.Prelude.{◌≡◌, ◌++◌, IfOk, IfErr, IfSome, is_some, option_map};
 ghost use Rattle.tko_bytes.specs.Lines.{crlf};
-ghost use Rattle.tko_commands.specs.Outcomes.{AllAsk, Asks, Refuses, answer_asked, bytes_of_digits, digits_of_bytes, is_outcome, line_asked, text_of_hit, text_of_line, texts_of, words_of};
+ghost use Rattle.tko_commands.specs.Outcomes.{AllAsk, NamesScript, RefusesOutcomes, answer_asked, bytes_of_digits, digits_of_bytes, is_outcome, line_asked, text_of_hit, text_of_line, texts_pointed_to, words_of};
 
 use hex::FromHexError;
 use std::alloc::{AllocError, AllocFailed, Global};
@@ -40,15 +40,15 @@ impl<T: Drop> From<AllocFailed<T>> for OutcomesFault {
 /// The scripts that the words of a list ask for.
 pub(crate) fn scripts_of(alloc: Global, list: &str) -> Result<Vec<Script>, OutcomesFault>
     ensures ok { IfOk result (λ scripts. AllAsk (words_of list.now) scripts.items) }
-    ensures err { IfErr result (Refuses (words_of list.now)) }
+    ensures err { IfErr result (RefusesOutcomes (words_of list.now)) }
 {
     let words = words_of(alloc, list)?;
     scripts_of_words(alloc, words.as_slice())
 }
 
 fn scripts_of_words(alloc: Global, words: &[&str]) -> Result<Vec<Script>, OutcomesFault>
-    ensures ok { IfOk result (λ scripts. AllAsk (texts_of words.now) scripts.items) }
-    ensures err { IfErr result (Refuses (texts_of words.now)) }
+    ensures ok { IfOk result (λ scripts. AllAsk (texts_pointed_to words.now) scripts.items) }
+    ensures err { IfErr result (RefusesOutcomes (texts_pointed_to words.now)) }
 {
     let mut scripts = Vec::new(alloc);
     for (place, word) in words.iter().enumerate() {
@@ -62,7 +62,7 @@ fn scripts_of_words(alloc: Global, words: &[&str]) -> Result<Vec<Script>, Outcom
 
 /// The words of a list, separated by commas.
 fn words_of(alloc: Global, list: &str) -> Result<Vec<&str>, AllocError>
-    ensures { IfOk result (λ words. texts_of words.items ≡ words_of list.now) }
+    ensures { IfOk result (λ words. texts_pointed_to words.items ≡ words_of list.now) }
 {
     if list.is_empty() {
         return Ok(Vec::new(alloc));
@@ -72,7 +72,7 @@ fn words_of(alloc: Global, list: &str) -> Result<Vec<&str>, AllocError>
 
 /// The script that a word asks for; None where it is no word of a list.
 fn script_of(alloc: Global, word: &str) -> Result<Option<Script>, AllocError>
-    ensures some { IfOk result (λ script. IfSome script (Asks word.now)) }
+    ensures some { IfOk result (λ script. IfSome script (NamesScript word.now)) }
     ensures known { IfOk result (λ script. is_some script ≡ is_outcome word.now) }
 {
     Ok(match word {

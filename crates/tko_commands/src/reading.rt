@@ -1,26 +1,26 @@
 //! Whole texts from an inlet.
 ghost use Rattle.std.specs.Prelude.{◌≡◌, ◌<◌, ◌≤◌, ◌+◌, ◌⊎◌, Ok, IfOk, IfErr, OnOk, length};
-ghost use Rattle.tko_commands.specs.Readings.{CannotRead, IsText};
+ghost use Rattle.tko_commands.specs.Readings.{HasReadFault, IsText};
 
 use std::alloc::{AllocError, Global};
 use tko_io::{Inlet, IoRuntime, piece_buffer, wait_for_piece};
 
 /// Why a text can't be read.
 #[derive(Clone, Copy, Debug, PartialEq, Eq)]
-pub(crate) enum ReadFault {
+pub(crate) enum InputFault {
     /// The inlet failed.
     Input,
     Memory,
 }
 
-impl From<AllocError> for ReadFault {
+impl From<AllocError> for InputFault {
     ghost use Rattle.std.specs.Prelude.{◌≡◌};
-    ghost use Rattle.tko_commands.specs.declared.reading.ReadFault.TheVariants.{Memory};
+    ghost use Rattle.tko_commands.specs.declared.reading.InputFault.TheVariants.{Memory};
 
     ghost from_gives = { λ _ fault. fault ≡ Memory };
 
-    fn from(_: AllocError) -> ReadFault {
-        ReadFault::Memory
+    fn from(_: AllocError) -> InputFault {
+        InputFault::Memory
     }
 }
 
@@ -30,10 +30,10 @@ pub(crate) fn read_text<R: IoRuntime, I: Inlet>(
     alloc: Global,
     input: &mut I,
     most: usize,
-) -> Result<Vec<u8>, ReadFault>
+) -> Result<Vec<u8>, InputFault>
     ensures ok { IfOk result (λ text.
         IsText I.gives I.is_ended most input.old input.new text.items) }
-    ensures err { IfErr result (CannotRead I.failures input.old input.new) }
+    ensures err { IfErr result (HasReadFault I.failures input.old input.new) }
 {
     let mut buffer = piece_buffer(alloc)?;
     let mut text = Vec::new(alloc);
@@ -52,7 +52,7 @@ fn append_piece<R: IoRuntime, I: Inlet>(
     input: &mut I,
     buffer: &mut [u8],
     text: &mut Vec<u8>,
-) -> Result<usize, ReadFault>
+) -> Result<usize, InputFault>
     requires { 0 < length buffer.old }
     ensures gives { (start : I) → I.gives start text.old.items input.old
         → OnOk result (I.gives start text.new.items input.new) }
@@ -61,10 +61,10 @@ fn append_piece<R: IoRuntime, I: Inlet>(
     ensures within { IfOk result (λ count. count ≤ length buffer.old) }
     ensures ended { result ≡ Ok 0 → I.is_ended input.new }
     ensures calm { OnOk result (I.failures input.new ≡ I.failures input.old) }
-    ensures err { IfErr result (CannotRead I.failures input.old input.new) }
+    ensures err { IfErr result (HasReadFault I.failures input.old input.new) }
 {
     let Some(count) = wait_for_piece(rt, input, buffer) else {
-        return Err(ReadFault::Input);
+        return Err(InputFault::Input);
     };
     text.extend_from_slice(&buffer[..count])?;
     Ok(count)

@@ -1,6 +1,6 @@
 //! The command `replay`: a schedule is played, checked and printed.
 ghost use Rattle.std.specs.Prelude.{IfErr, OnOk};
-ghost use Rattle.tko_commands.specs.Replays.{ReplayFails, Replays};
+ghost use Rattle.tko_commands.specs.Replays.{ReplayFails, ReplaysSchedule};
 
 use crate::Fault;
 use crate::reading::read_text;
@@ -20,7 +20,7 @@ pub(crate) fn replay<R: IoRuntime, I: Inlet, O: Outlet>(
     input: &mut I,
     output: &mut O,
 ) -> Result<(), Fault>
-    ensures ok { OnOk result (Replays I.gives I.is_ended O.takes
+    ensures ok { OnOk result (ReplaysSchedule I.gives I.is_ended O.takes
         input.old output.old input.new output.new) }
     ensures err { IfErr result (ReplayFails I.gives I.is_ended I.failures O.failures
         input.old input.new output.old output.new) }

@@ -1,9 +1,9 @@
 //! Commands run to their status. Their faults are reported.
 ghost use Rattle.std.specs.Prelude.{◌≡◌, ◌≤◌, ◌<◌, Err, IsOk, OnOk, OnErr};
 ghost use Rattle.tko_commands.specs.Done.{HasCheckedAll, HasDried};
-ghost use Rattle.tko_commands.specs.FaultLines.{HasLine, IsFaultWritten, IsReasonTold};
+ghost use Rattle.tko_commands.specs.FaultLines.{HasFaultLine, IsFaultWritten, IsReasonTold};
 ghost use Rattle.tko_commands.specs.NotDone.{HasNotChecked, HasNotDried};
-ghost use Rattle.tko_commands.specs.Replays.{ReplayFails, Replays};
+ghost use Rattle.tko_commands.specs.Replays.{ReplayFails, ReplaysSchedule};
 
 use crate::checking::check;
 use crate::dry::dry;
@@ -66,7 +66,7 @@ pub fn run_replay<R: IoRuntime, I: Inlet, O: Outlet, F: Outlet>(
     faults: &mut F,
 ) -> u8
     ensures status { result ≤ 1 }
-    ensures replay { result ≡ 0 → Replays I.gives I.is_ended O.takes
+    ensures replay { result ≡ 0 → ReplaysSchedule I.gives I.is_ended O.takes
         input.old output.old input.new output.new }
     ensures done { result ≡ 0 → faults.new ≡ faults.old }
     ensures fault { result ≡ 1 → IsReasonTold F.takes F.failures
@@ -189,7 +189,7 @@ fn write_fault<R: IoRuntime, F: Outlet>(
     faults: &mut F,
     fault: Fault,
 ) -> Result<(), WriteFault>
-    ensures ok { OnOk result (HasLine F.takes fault faults.old faults.new) }
+    ensures ok { OnOk result (HasFaultLine F.takes fault faults.old faults.new) }
     ensures err { OnErr result (F.failures faults.old < F.failures faults.new) }
 {
     match format!(in alloc; "{fault}\n") {

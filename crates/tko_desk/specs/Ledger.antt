@@ -1,7 +1,7 @@
 -- A ledger: a book of totals, and the shares of the workers that counted them.
 use Rattle.std.specs.Prelude.{◌≡◌, ℕ, zero, suc, ◌+◌, ◌<◌, ◌⊎◌, Bool, ◌==◌, List, [], ◌∷◌, ◌++◌, All, length}
 use Rattle.std.specs.List.{count_by, sum_by}
-use Rattle.tko_model.specs.Numbers.{most, no_counts, number_of, raised}
+use Rattle.tko_model.specs.Numbers.{most, no_counts, number_of_kind, raised}
 use Rattle.tko_model.specs.declared.counts.Counts.{Counts}
 use Rattle.tko_model.specs.declared.kind.Kind.{Kind}
 use Rattle.tko_desk.specs.declared.book.Book.{Book}
@@ -17,19 +17,19 @@ fresh_shares name zero = []
 fresh_shares name (suc n) = fresh_shares name n ++ fresh_share name n ∷ []
 
 -- a ledger that was opened: a share for each place below their number, in order
-pub record IsOpened (name shares : ℕ) (book : Book) (list : List Share) : Type 0 where
+pub record IsLedgerOpened (name shares : ℕ) (book : Book) (list : List Share) : Type 0 where
   pub book_is : book ≡ record { name = name; shares = shares; totals = no_counts }
   pub list_is : list ≡ fresh_shares name shares
 
 -- the book or the share has counted the greatest number of the kind, and counts no more
 abbrev pub IsFull : Kind → Book → Share → Type 0
 IsFull kind book share =
-    (number_of kind book.totals ≡ most) ⊎ (number_of kind share.counts ≡ most)
+    (number_of_kind kind book.totals ≡ most) ⊎ (number_of_kind kind share.counts ≡ most)
 
 -- the book or the share would come to more of the kind than is counted, with `by` more
 abbrev pub IsTooMany : Kind → ℕ → Book → Share → Type 0
 IsTooMany kind by book share =
-    (most < number_of kind book.totals + by) ⊎ (most < number_of kind share.counts + by)
+    (most < number_of_kind kind book.totals + by) ⊎ (most < number_of_kind kind share.counts + by)
 
 -- `by` more of the kind in the book and in the share, and nothing else
 pub record IsAdded (kind : Kind) (by : ℕ) (book : Book) (share : Share) (book' : Book)
@@ -43,7 +43,7 @@ is_at place share = share.place == place
 
 -- how many of a kind all shares counted
 abbrev pub sum_of : Kind → List Share → ℕ
-sum_of kind shares = sum_by (λ share. number_of kind share.counts) shares
+sum_of kind shares = sum_by (λ share. number_of_kind kind share.counts) shares
 
 -- each place below this number has one share
 unfoldable pub HasEachPlace : ℕ → List Share → Type 0
@@ -51,7 +51,7 @@ HasEachPlace number list = (place : ℕ) → place < number → count_by (is_at 
 
 -- the shares add up to these numbers
 unfoldable pub HasSums : Counts → List Share → Type 0
-HasSums totals list = (kind : Kind) → sum_of kind list ≡ number_of kind totals
+HasSums totals list = (kind : Kind) → sum_of kind list ≡ number_of_kind kind totals
 
 -- these are the shares of the book: each bears its name, there are as many as it was opened with,
 -- each place has one, and they add up to its totals

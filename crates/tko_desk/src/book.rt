@@ -1,6 +1,6 @@
 //! A ledger's book, and the shares of it.
 ghost use Rattle.std.specs.Prelude.{◌≡◌, ◌↔◌, IfErr, IfOk, IsErrOf, OnErr, OnOk};
-ghost use Rattle.tko_desk.specs.Ledger.{IsAdded, IsFull, IsOpened, IsTooMany, fresh_shares};
+ghost use Rattle.tko_desk.specs.Ledger.{IsAdded, IsFull, IsLedgerOpened, IsTooMany, fresh_shares};
 
 use std::alloc::Global;
 use tko_bytes::NoMemory;
@@ -31,7 +31,7 @@ pub struct LedgerFull {
 impl Book {
     /// A ledger with `shares` shares, of the places from 0 on, in order.
     pub fn open(alloc: Global, name: u64, shares: u32) -> Result<(Book, Vec<Share>), NoMemory>
-        ensures { IfOk result (λ opened. IsOpened name shares opened.0 opened.1.items) }
+        ensures { IfOk result (λ opened. IsLedgerOpened name shares opened.0 opened.1.items) }
     {
         let totals = Counts::new();
         let list = Share::list(alloc, name, shares)?;

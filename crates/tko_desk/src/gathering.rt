@@ -1,7 +1,7 @@
 //! What a ledger comes to, once all its shares are back.
 ghost use Rattle.std.specs.Prelude.{◌≡◌, ◌↔◌, ◌<◌, ℕ, All, IfErr, IfOk, IsOk, IsTrue, length};
 ghost use Rattle.std.specs.List.{count_by};
-ghost use Rattle.tko_model.specs.Numbers.{number_of};
+ghost use Rattle.tko_model.specs.Numbers.{number_of_kind};
 ghost use Rattle.tko_desk.specs.Ledger.{HasEachPlace, HasSums, IsWhole, is_at, sum_of};
 
 use crate::{Book, Share};
@@ -85,7 +85,7 @@ fn has_sums(totals: &Counts, shares: &[Share]) -> bool
 
 /// Whether the shares add up to the total of a kind.
 fn is_sum(kind: Kind, totals: &Counts, shares: &[Share]) -> bool
-    ensures { IsTrue result ↔ (sum_of kind shares.now ≡ number_of kind totals.now) }
+    ensures { IsTrue result ↔ (sum_of kind shares.now ≡ number_of_kind kind totals.now) }
 {
     let mut left = totals.of(kind);
     for share in shares {

@@ -15,9 +15,9 @@ pub(crate) struct HeldPasses<N: Named> {
 
 impl<N: Named> Model for HeldPasses<N> {
     ghost use Rattle.std.specs.Vec.{vec_capacity};
-    ghost use Rattle.tko_desk.specs.Desk.{AreHeld, Held};
+    ghost use Rattle.tko_desk.specs.Desk.{AreHeld, HeldList};
 
-    ghost Value = { Held };
+    ghost Value = { HeldList };
 
     ghost view = { λ h. record { passes = h.passes.items; most = h.most } };
 

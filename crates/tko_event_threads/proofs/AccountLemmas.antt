@@ -12,14 +12,14 @@ use Rattle.tko_threads.specs.Accounts.{IsGiven}
 use Rattle.tko_threads.specs.Reports.{sum_of_reports}
 use Rattle.tko_threads.specs.declared.report.WorkerReport.{WorkerReport}
 use Rattle.tko_worker.specs.declared.ends.EndCounts.{EndCounts}
-use Rattle.tko_event_threads.specs.Accounting.{AccountEvent, AccountState, Ended, HasCounted, IsAccountSettled, IsAccountStep, Noted, Recorded, Settled, account_state, fresh, with_short}
+use Rattle.tko_event_threads.specs.Accounting.{AccountEvent, AccountState, Ended, HasCounted, IsAccountSettled, IsAccountStep, Noted, Recorded, Settled, account_state, fresh_account, with_short}
 use Rattle.tko_event_threads.specs.Ends.{report_of}
 
 module _ {opened : Share → Type 0} where
   -- nothing yet
-  pub counted_first : (share : Share) → opened share → HasCounted opened (fresh share)
+  pub counted_first : (share : Share) → opened share → HasCounted opened (fresh_account share)
   counted_first share begun =
-      record { share = share; begun = begun; events = []; gains = gains_none (fresh share) }
+      record { share = share; begun = begun; events = []; gains = gains_none (fresh_account share) }
 
   -- this happened too
   pub counted_on : {old new : AccountState} (event : AccountEvent) → HasCounted opened old → IsAccountStep old event new

@@ -5,7 +5,7 @@ use Rattle.tko_pools.specs.Configs.{Configuration}
 use Rattle.tko_prober.specs.declared.backend.Backend.{Backend}
 use Rattle.tko_port.specs.Talks.{Readiness}
 use Rattle.tko_reply.specs.declared.parts.Parts.{Parts}
-use Rattle.tko_rounds.specs.Rounds.{IsRound, RoundState}
+use Rattle.tko_rounds.specs.Rounds.{IsEventRound, RoundState}
 use Rattle.tko_worker.specs.Workers.{IsInOrder, Sight, WorkerState}
 use Rattle.tko_worker.specs.declared.ends.EndCounts.{EndCounts}
 use Rattle.tko_event_threads.specs.Accounting.{AccountState, IsTurnCounted}
@@ -24,7 +24,7 @@ module _ {H C : Type 0} (health : HealthGhosts H) where
   -- a round, and after it what is counted
   pub host_round : (moment due : ℕ) (short ran_out : Bool) (before after : RoundState H (List ℕ) C)
       (old mid new : Parts H (List ℕ) AccountState C) (left : Backend H (List ℕ) C) (ends : EndCounts) (sent : ℕ)
-      → ran_out ≡ short → IsRound health moment due before short after → before.backend ≡ old.backend → after.backend ≡ mid.backend
+      → ran_out ≡ short → IsEventRound health moment due before short after → before.backend ≡ old.backend → after.backend ≡ mid.backend
       → mid ≡ record old { backend = left } → IsTurnEnd ends ran_out sent mid new → IsHostRound health moment old new
   host_round moment due short ran_out before after old mid new left ends sent same round from to stays end =
       let trails : mid.trails ≡ old.trails = ap (λ (p : Parts H (List ℕ) AccountState C). p.trails) stays in
@@ -35,7 +35,7 @@ module _ {H C : Type 0} (health : HealthGhosts H) where
         ran_out = ran_out;
         before = before;
         after = after;
-        round = subst (λ (it : Bool). IsRound health moment due before it after) (sym same) round;
+        round = subst (λ (it : Bool). IsEventRound health moment due before it after) (sym same) round;
         from = from;
         to = to ∙ sym backend;
         ends = ends;

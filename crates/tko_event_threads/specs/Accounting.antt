@@ -26,12 +26,12 @@ account_state counts share probes report =
     record { counts = counts; share = share; probes = probes; report = report }
 
 -- nothing was counted yet
-abbrev pub fresh : Share → AccountState
-fresh share = account_state no_counts share 0 no_report
+abbrev pub fresh_account : Share → AccountState
+fresh_account share = account_state no_counts share 0 no_report
 
 -- a request or a trail more
-abbrev pub with_event : TrailEvent → AccountState → AccountState
-with_event event at = record at { counts = counted at.counts event }
+abbrev pub with_trail_event : TrailEvent → AccountState → AccountState
+with_trail_event event at = record at { counts = counted at.counts event }
 
 -- memory ran out, or did not
 abbrev pub with_short : Bool → AccountState → AccountState
@@ -64,7 +64,7 @@ pub data AccountEvent : Type 0 where
   Settled : (sent : ℕ) (full : Bool) → AccountEvent
 
 abbrev pub IsAccountStep : AccountState → AccountEvent → AccountState → Type 0
-IsAccountStep old (Recorded event) new = new ≡ with_event event old
+IsAccountStep old (Recorded event) new = new ≡ with_trail_event event old
 IsAccountStep old (Noted ran_out) new = new ≡ with_short ran_out old
 IsAccountStep old (Ended ends) new = new ≡ with_ends ends old
 IsAccountStep old (Settled sent full) new = IsAccountSettled sent old full new
@@ -74,7 +74,7 @@ pub record HasCounted (opened : Share → Type 0) (at : AccountState) : Type 0 w
   pub share : Share
   pub begun : opened share
   pub events : List AccountEvent
-  pub gains : Gains IsAccountStep (fresh share) events at
+  pub gains : Gains IsAccountStep (fresh_account share) events at
 
 -- the account is settled if a client ended
 abbrev pub SettlesIf : Bool → ℕ → AccountState → AccountState → Type 0

@@ -2,7 +2,7 @@
 use Rattle.std.specs.Prelude.{◌≡◌, ℕ, Bool, List}
 use Rattle.tko_health.specs.declared.health.Health.{Ghosts as HealthGhosts}
 use Rattle.tko_reply.specs.declared.parts.Parts.{Parts}
-use Rattle.tko_rounds.specs.Rounds.{IsRound, RoundState}
+use Rattle.tko_rounds.specs.Rounds.{IsEventRound, RoundState}
 use Rattle.tko_worker.specs.declared.ends.EndCounts.{EndCounts}
 use Rattle.tko_event_threads.specs.Accounting.{AccountState, IsTurnCounted}
 
@@ -20,7 +20,7 @@ module _ {H C : Type 0} where
     pub ran_out : Bool
     pub before : RoundState H (List ℕ) C
     pub after : RoundState H (List ℕ) C
-    pub round : IsRound health moment due before ran_out after
+    pub round : IsEventRound health moment due before ran_out after
     pub from : before.backend ≡ old.backend
     pub to : after.backend ≡ new.backend
     pub ends : EndCounts

@@ -1,7 +1,7 @@
 //! A worker's observer: what it counts, the account that gets that, and what it reports.
 ghost use Rattle.std.specs.Prelude.{◌≡◌, ◌-◌, Bool};
 ghost use Rattle.tko_model.specs.Numbers.{no_counts, saturated};
-ghost use Rattle.tko_event_threads.specs.Accounting.{HasCounted, IsAccountSettled, fresh, with_ends, with_short};
+ghost use Rattle.tko_event_threads.specs.Accounting.{HasCounted, IsAccountSettled, fresh_account, with_ends, with_short};
 
 use crate::ends::{report_of, tell_ends};
 use crate::loads::worker_load;
@@ -48,7 +48,7 @@ impl<'a, 'r, N: Opening> Accounted<'a, 'r, N> {
     pub(crate) fn new(metered: Metered<'r>, account: Account<'a>) -> Accounted<'a, 'r, N>
         requires none { metered ≡ no_counts }
         requires opened { N.opened account.share.now }
-        ensures { result ≡ fresh account.entry.share.now }
+        ensures { result ≡ fresh_account account.entry.share.now }
     {
         Accounted {
             metered,
@@ -126,9 +126,9 @@ fn take_lacking(metered: &mut Metered<'_>, probes: &mut u64, sent: u64) -> Count
 
 impl<'a, 'r, N: Opening> Trails for Accounted<'a, 'r, N> {
     ghost use Rattle.std.specs.Prelude.{◌≡◌};
-    ghost use Rattle.tko_event_threads.specs.Accounting.{with_event};
+    ghost use Rattle.tko_event_threads.specs.Accounting.{with_trail_event};
 
-    ghost records = { λ old event new. new ≡ with_event event old };
+    ghost records = { λ old event new. new ≡ with_trail_event event old };
 
     fn request<R: IoRuntime>(&mut self, rt: &R, request: &Request) -> Result<(), NoMemory> {
         self.metered.request(rt, request)

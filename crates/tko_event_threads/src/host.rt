@@ -22,7 +22,7 @@ use tko_io::IoRuntime;
 use tko_keys::KeyPlan;
 use tko_loop::{Host, Load};
 use tko_port::Port;
-use tko_roster::Visit;
+use tko_roster::PartsVisit;
 use tko_rounds::Rounds;
 use tko_worker::{EndCounts, EventWorker};
 
@@ -103,7 +103,7 @@ impl<'r, R: IoRuntime> EventHost<'r, R> {
     }
 }
 
-impl<'r, 'c, 'a, 'm, R: IoRuntime, H: Health, N: Opening, C> Visit<
+impl<'r, 'c, 'a, 'm, R: IoRuntime, H: Health, N: Opening, C> PartsVisit<
     Lent<'c, R, H, Accounted<'a, 'm, N>, C>,
 > for TurnEnd<'r, R> {
     ghost use Rattle.tko_client.specs.Steps.{HasStayed};

@@ -10,12 +10,12 @@ use tko_model::{Duty, Look, Reply};
 
 /// The health of the servers, which was reached by its own calls from where its worker began.
 #[derive(Drop)]
-pub(crate) struct Seated<N: Origin<H>, H: Health> {
+pub(crate) struct SeatHealth<N: Origin<H>, H: Health> {
     health: H,
     of: PhantomData<N>,
 }
 
-impl<N: Origin<H>, H: Health> Model for Seated<N, H> {
+impl<N: Origin<H>, H: Health> Model for SeatHealth<N, H> {
     ghost use Rattle.tko_event_threads.specs.Origins.{IsReached};
 
     ghost Value = { H };
@@ -25,13 +25,13 @@ impl<N: Origin<H>, H: Health> Model for Seated<N, H> {
     ghost invariant = { λ it. IsReached H.steps N.seated it.health };
 }
 
-impl<N: Origin<H>, H: Health> Seated<N, H> {
+impl<N: Origin<H>, H: Health> SeatHealth<N, H> {
     /// A worker begins.
-    pub(crate) fn new(health: H) -> Seated<N, H>
+    pub(crate) fn new(health: H) -> SeatHealth<N, H>
         requires { N.seated health }
         ensures { result ≡ health }
     {
-        Seated {
+        SeatHealth {
             health,
             of: PhantomData,
         }
@@ -46,7 +46,7 @@ impl<N: Origin<H>, H: Health> Seated<N, H> {
     }
 }
 
-impl<N: Origin<H>, H: Health> Health for Seated<N, H> {
+impl<N: Origin<H>, H: Health> Health for SeatHealth<N, H> {
     ghost servers = { H.servers };
 
     ghost steps = { H.steps };

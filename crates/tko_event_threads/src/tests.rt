@@ -13,7 +13,7 @@ use tko_desk::Book;
 use tko_events::WorkerLog;
 use tko_health::{LockedSeating, TrackerSettings};
 use tko_keys::{Grouping, KeyPlan};
-use tko_loop::{Addresses, Arrival, Entry, Handover, LoopLimits};
+use tko_loop::{Addresses, Arrival, Handover, LoopEntry, LoopLimits};
 use tko_model::{Counts, Kind, OneGroup};
 use tko_pools::Config;
 use tko_prober::{Delays, Probers};
@@ -96,7 +96,7 @@ fn work<R: Wait + Net<Stream = TcpStream, Listener = TcpListener> + Clock>(
     rt: &R,
     alloc: Global,
     server: SocketAddr,
-    way_in: Entry<u8>,
+    way_in: LoopEntry<u8>,
 ) -> Result<Left, Fail> {
     let (seating, mut seats) = LockedSeating::<One>::open(alloc, SETTINGS.settings(alloc)?)?;
     let (book, mut shares) = Book::open(alloc, 0, 1)?;
@@ -151,7 +151,7 @@ fn clients_are_served_and_counted_and_the_seat_comes_back(rt: HostRuntime) -> Re
     let _sockets: Option<(TcpStream, TcpListener)> = None;
     let alloc = rt.alloc();
     let gone = listener(&rt)?.local_addr()?;
-    let (way_in, handover) = Entry::open(&rt, alloc, 4)?;
+    let (way_in, handover) = LoopEntry::open(&rt, alloc, 4)?;
     let mut one = client(&rt, &handover, b"get a\r\n")?;
     let mut two = client(&rt, &handover, b"get b\r\nquit\r\n")?;
     drop(handover);
@@ -178,7 +178,7 @@ fn a_worker_without_clients_ends_once_none_can_come(rt: HostRuntime) -> Result<(
     let _sockets: Option<(TcpStream, TcpListener)> = None;
     let alloc = rt.alloc();
     let gone = listener(&rt)?.local_addr()?;
-    let (way_in, handover) = Entry::open(&rt, alloc, 4)?;
+    let (way_in, handover) = LoopEntry::open(&rt, alloc, 4)?;
     drop(handover);
     let left = work(&rt, alloc, gone, way_in)?;
     assert_eq!(rt; left.report, WorkerReport::new());

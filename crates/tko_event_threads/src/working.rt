@@ -6,7 +6,7 @@ ghost use Rattle.tko_event_threads.specs.Worked.{HasEventWorked, IsEventEquipped
 use crate::accounted::Accounted;
 use crate::host::EventHost;
 use crate::origin::{Opening, Origin};
-use crate::seated::Seated;
+use crate::seated::SeatHealth;
 use std::alloc::Global;
 use std::marker::Brand;
 use std::sync::Wait;
@@ -18,7 +18,7 @@ use tko_events::WorkerLog;
 use tko_health::{Health, Seating};
 use tko_io::IoRuntime;
 use tko_keys::KeyPlan;
-use tko_loop::{Addresses, Entry, EventLoop, Load, LoopLimits};
+use tko_loop::{Addresses, EventLoop, Load, LoopEntry, LoopLimits};
 use tko_pools::Config;
 use tko_prober::{Backend, Probers};
 use tko_rounds::Rounds;
@@ -40,7 +40,7 @@ pub struct EventParts<'a, S, K> {
     pub limits: LoopLimits,
     /// How the keys of one request are sent.
     pub keys: KeyPlan,
-    pub way_in: Entry<K>,
+    pub way_in: LoopEntry<K>,
     pub first_ask: FirstAsk,
 }
 
@@ -50,12 +50,12 @@ struct Ways<K> {
     servers: Vec<Addresses>,
     limits: LoopLimits,
     keys: KeyPlan,
-    way_in: Entry<K>,
+    way_in: LoopEntry<K>,
     first_ask: FirstAsk,
 }
 
 /// What the sessions of a worker's clients share. Nothing of it reads a clock: the loop does.
-type LentOf<'r, 'a, 'm, R, N, H> = Lent<'r, R, Seated<N, H>, Accounted<'a, 'm, N>, ()>;
+type LentOf<'r, 'a, 'm, R, N, H> = Lent<'r, R, SeatHealth<N, H>, Accounted<'a, 'm, N>, ()>;
 
 /// Serves the clients that come, until no client is left and none can come. At the end of each turn
 /// of events a round is run, and where clients ended the account is settled. At the end the worker
@@ -110,7 +110,7 @@ fn work<N: Origin<H> + Opening, R: IoRuntime, H: Health + Drop, S: Seating<Worke
         first_ask,
     } = parts;
     let counts = no_counts(alloc, config.addresses().len());
-    let health: Seated<N, H> = Seated::new(seating.seat(idle));
+    let health: SeatHealth<N, H> = SeatHealth::new(seating.seat(idle));
     let trails: Accounted<'_, '_, N> = Accounted::new(Metered::new(log, &requests), account);
     let Ok((links, rounds)) = counts else {
         return end(rt, seating, health, trails, 0, true);
@@ -198,7 +198,7 @@ fn serve_all<
 fn end<N: Origin<H> + Opening, R: IoRuntime, H: Health + Drop, S: Seating<Worker = H>>(
     rt: &R,
     seating: &S,
-    health: Seated<N, H>,
+    health: SeatHealth<N, H>,
     trails: Accounted<'_, '_, N>,
     sent: u64,
     ran_out: bool,

@@ -1,6 +1,6 @@
 -- What the log tells of a server: which replies change a mark, and what came of an exchange.
 use Rattle.std.specs.Prelude.{ℕ, Option, Some, None, option_map, Result, Ok, Err}
-use Rattle.tko_links.specs.declared.links.NoMemory.{NoMemory}
+use Rattle.tko_links.specs.declared.links.ExchangeNoMemory.{ExchangeNoMemory}
 use Rattle.tko_links.specs.declared.links.Outcome.{Outcome}
 use Rattle.tko_links.specs.declared.links.Outcome.TheVariants as outcome
 use Rattle.tko_model.specs.declared.mark.Reply.{Reply}
@@ -9,13 +9,13 @@ use Rattle.tko_metrics.specs.declared.worker_meter.Marking.{Marking}
 use Rattle.tko_metrics.specs.declared.worker_meter.Marking.TheVariants as marking
 use Rattle.tko_events.specs.declared.event.Cause.{Cause}
 use Rattle.tko_events.specs.declared.event.Cause.TheVariants as cause
-use Rattle.tko_events.specs.declared.event.Change.{Change}
-use Rattle.tko_events.specs.declared.event.Change.TheVariants as change
+use Rattle.tko_events.specs.declared.event.ServerChange.{ServerChange}
+use Rattle.tko_events.specs.declared.event.ServerChange.TheVariants as change
 use Rattle.tko_events.specs.declared.event.What.{What}
 use Rattle.tko_events.specs.declared.event.What.TheVariants as what
 
 -- the change of a mark that a reply reports; the other replies leave each mark as it was
-abbrev pub change_in : Reply → Option Change
+abbrev pub change_in : Reply → Option ServerChange
 change_in (reply.Up count) = None
 change_in (reply.Marked mark) = None
 change_in (reply.Counted count) = None
@@ -33,7 +33,7 @@ change_in (reply.Released mark) = Some change.Released
 change_in (reply.NotMine mark) = None
 
 -- the mark that its worker has on the server after a change; a probe leaves it as it was
-abbrev pub marking_after : Change → Option Marking
+abbrev pub marking_after : ServerChange → Option Marking
 marking_after change.MarkedSoft = Some marking.Soft
 marking_after change.MarkedHard = Some marking.Hard
 marking_after change.Hardened = Some marking.Hard
@@ -51,19 +51,19 @@ cause_of_outcome outcome.Aborted = cause.Aborted
 cause_of_outcome outcome.Spent = cause.Spent
 
 -- what came of a probe, without the response
-abbrev pub cause_of : Result Outcome NoMemory → Cause
+abbrev pub cause_of : Result Outcome ExchangeNoMemory → Cause
 cause_of (Ok outcome) = cause_of_outcome outcome
 cause_of (Err fault) = cause.Memory
 
 -- the event of a reply, if it reports a change
-abbrev pub change_of : ℕ → ℕ → Option Cause → Reply → Option What
-change_of server worker cause reply =
+abbrev pub reported_change : ℕ → ℕ → Option Cause → Reply → Option What
+reported_change server worker cause reply =
     option_map (λ change. what.Server server worker change cause) (change_in reply)
 
 -- the same where the health may have been told nothing
 abbrev pub change_after : ℕ → ℕ → Option Cause → Option Reply → Option What
 change_after server worker cause None = None
-change_after server worker cause (Some reply) = change_of server worker cause reply
+change_after server worker cause (Some reply) = reported_change server worker cause reply
 
 -- the server whose mark an event changes, and its worker's mark there from then on
 abbrev pub marking_in : What → Option (ℕ × Marking)

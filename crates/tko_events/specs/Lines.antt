@@ -2,14 +2,14 @@
 use Rattle.std.specs.Prelude.{◌≡◌, ℕ, ◌+◌, ◌-◌, ◌^◌, min, List, Option, Some, None, codes, length, map, option_map, replicate, slice_get, slice_index_or, String, string_bytes, unwrap_or}
 use Rattle.tko_events.specs.declared.event.Cause.{Cause}
 use Rattle.tko_events.specs.declared.event.Cause.TheVariants as cause
-use Rattle.tko_events.specs.declared.event.Change.{Change}
-use Rattle.tko_events.specs.declared.event.Change.TheVariants as change
+use Rattle.tko_events.specs.declared.event.ServerChange.{ServerChange}
+use Rattle.tko_events.specs.declared.event.ServerChange.TheVariants as change
 use Rattle.tko_events.specs.declared.journal.Journal.{Journal}
-use Rattle.tko_events.specs.declared.journal.Known.{Known}
+use Rattle.tko_events.specs.declared.journal.KnownServer.{KnownServer}
 use Rattle.tko_events.specs.declared.journal.Marked.{Marked}
 use Rattle.tko_events.specs.declared.journal.Marked.TheVariants as marked
 
-abbrev pub change_word : Change → List ℕ
+abbrev pub change_word : ServerChange → List ℕ
 change_word change.MarkedSoft = codes "marked"
 change_word change.MarkedHard = codes "marked"
 change_word change.Hardened = codes "hardened"
@@ -37,34 +37,34 @@ abbrev pub address_at : {A : Type 0} → List (String A) → ℕ → List ℕ
 address_at names server = unwrap_or (option_map string_bytes (slice_get names server)) (codes "?")
 
 -- a server of which no event has told
-abbrev pub never_marked : Known
+abbrev pub never_marked : KnownServer
 never_marked = record { mark = marked.Up; probes = 0 }
 
 -- what is known of a server; of one that there is not, that it is up
-abbrev pub known_at : List Known → ℕ → Known
+abbrev pub known_at : List KnownServer → ℕ → KnownServer
 known_at servers server = slice_index_or servers server never_marked
 
 -- what is known of a server after an event: its mark, and its probes since it was marked
-abbrev pub noted : Change → Known → Known
-noted change.MarkedSoft known = record { mark = marked.Soft; probes = 0 }
-noted change.MarkedHard known = record { mark = marked.Hard; probes = 0 }
-noted change.Hardened known = record known { mark = marked.Hard }
-noted change.Unmarked known = record known { mark = marked.Up }
-noted change.Released known = record known { mark = marked.Up }
-noted change.Probed known = record known { probes = min (known.probes + 1) (2 ^ 64 - 1) }
+abbrev pub known_after : ServerChange → KnownServer → KnownServer
+known_after change.MarkedSoft known = record { mark = marked.Soft; probes = 0 }
+known_after change.MarkedHard known = record { mark = marked.Hard; probes = 0 }
+known_after change.Hardened known = record known { mark = marked.Hard }
+known_after change.Unmarked known = record known { mark = marked.Up }
+known_after change.Released known = record known { mark = marked.Up }
+known_after change.Probed known = record known { probes = min (known.probes + 1) (2 ^ 64 - 1) }
 
 -- the count of an event's line: the failures that made a mark, or else the probes since it was made
-abbrev pub count_in : ℕ → Change → Known → ℕ
+abbrev pub count_in : ℕ → ServerChange → KnownServer → ℕ
 count_in failures change.MarkedSoft known = failures
 count_in failures change.MarkedHard known = 1
 count_in failures change.Hardened known = known.probes
 count_in failures change.Unmarked known = known.probes
 count_in failures change.Released known = known.probes
-count_in failures change.Probed known = (noted change.Probed known).probes
+count_in failures change.Probed known = (known_after change.Probed known).probes
 
 -- the journal of a program that listens here, over servers of these addresses, of which so many
 -- soft failures in a row mark one; no event has come yet
-pub record IsBegun (listen : List ℕ) (failures : ℕ) (addresses : List (List ℕ))
+pub record IsJournalBegun (listen : List ℕ) (failures : ℕ) (addresses : List (List ℕ))
     (journal : Journal) : Type 0
   where
     pub at : string_bytes journal.listen ≡ listen

@@ -1,15 +1,15 @@
 //! What the log tells.
 ghost use Rattle.std.specs.Prelude.{◌≡◌, None, Some};
-ghost use Rattle.tko_events.specs.Events.{cause_of, cause_of_outcome, change_after, change_in, change_of, marking_after, marking_in};
+ghost use Rattle.tko_events.specs.Events.{cause_of, cause_of_outcome, change_after, change_in, marking_after, marking_in, reported_change};
 ghost use Rattle.tko_events.specs.Lines.{cause_word, change_word};
 
-use tko_links::{NoMemory, Outcome};
+use tko_links::{ExchangeNoMemory, Outcome};
 use tko_metrics::Marking;
 use tko_model::Reply;
 
 /// One event.
 #[derive(Clone, Copy, Debug, PartialEq, Eq)]
-pub struct Event {
+pub struct LogEvent {
     /// In milliseconds since 1970; where there is none, the moment at which its line is written.
     pub moment: Option<u64>,
     pub what: What,
@@ -27,7 +27,7 @@ pub enum What {
     Server {
         server: usize,
         worker: u32,
-        change: Change,
+        change: ServerChange,
         cause: Option<Cause>,
     },
     /// How many sessions have ended, and how many of them by a fault.
@@ -41,7 +41,7 @@ pub enum What {
 
 /// What became of a server's mark, or that it was probed.
 #[derive(Clone, Copy, Debug, PartialEq, Eq)]
-pub enum Change {
+pub enum ServerChange {
     MarkedSoft,
     MarkedHard,
     Hardened,
@@ -65,9 +65,10 @@ pub enum Cause {
 impl What {
     /// What an attempt at a server changed, which came to this and to which the health replied so.
     pub fn of_attempt(server: usize, worker: u32, outcome: &Outcome, reply: Reply) -> Option<What>
-        ensures { result ≡ change_of server worker (Some (cause_of_outcome outcome.now)) reply }
+        ensures { result ≡ reported_change server worker
+            (Some (cause_of_outcome outcome.now)) reply }
     {
-        let change = Change::of(reply)?;
+        let change = ServerChange::of(reply)?;
         Some(What::Server {
             server,
             worker,
@@ -77,13 +78,13 @@ impl What {
     }
 
     /// A probe of a server, which came to this.
-    pub fn of_probe(server: usize, worker: u32, came: &Result<Outcome, NoMemory>) -> What
+    pub fn of_probe(server: usize, worker: u32, came: &Result<Outcome, ExchangeNoMemory>) -> What
         ensures { result ≡ What.Server server worker Change.Probed (Some (cause_of came.now)) }
     {
         What::Server {
             server,
             worker,
-            change: Change::Probed,
+            change: ServerChange::Probed,
             cause: Some(Cause::of(came)),
         }
     }
@@ -92,12 +93,12 @@ impl What {
     pub fn after_probe(
         server: usize,
         worker: u32,
-        came: &Result<Outcome, NoMemory>,
+        came: &Result<Outcome, ExchangeNoMemory>,
         reply: Option<Reply>,
     ) -> Option<What>
         ensures { result ≡ change_after server worker (Some (cause_of came.now)) reply }
     {
-        let change = Change::of(reply?)?;
+        let change = ServerChange::of(reply?)?;
         Some(What::Server {
             server,
             worker,
@@ -108,9 +109,9 @@ impl What {
 
     /// What the release of a server changed, to which the health replied so.
     pub fn of_release(server: usize, worker: u32, reply: Reply) -> Option<What>
-        ensures { result ≡ change_of server worker None reply }
+        ensures { result ≡ reported_change server worker None reply }
     {
-        let change = Change::of(reply)?;
+        let change = ServerChange::of(reply)?;
         Some(What::Server {
             server,
             worker,
@@ -130,17 +131,17 @@ impl What {
     }
 }
 
-impl Change {
+impl ServerChange {
     /// The change that this reply reports, if it reports one.
-    pub fn of(reply: Reply) -> Option<Change>
+    pub fn of(reply: Reply) -> Option<ServerChange>
         ensures { result ≡ change_in reply }
     {
         match reply {
-            Reply::TookSoft => Some(Change::MarkedSoft),
-            Reply::TookHard => Some(Change::MarkedHard),
-            Reply::Hardened => Some(Change::Hardened),
-            Reply::Unmarked(_) => Some(Change::Unmarked),
-            Reply::Released(_) => Some(Change::Released),
+            Reply::TookSoft => Some(ServerChange::MarkedSoft),
+            Reply::TookHard => Some(ServerChange::MarkedHard),
+            Reply::Hardened => Some(ServerChange::Hardened),
+            Reply::Unmarked(_) => Some(ServerChange::Unmarked),
+            Reply::Released(_) => Some(ServerChange::Released),
             Reply::Up(_) | Reply::Marked(_) | Reply::Counted(_) | Reply::Full => None,
             Reply::Already(_) | Reply::Worn | Reply::Contended => None,
             Reply::Clean | Reply::Reset(_) | Reply::NotMine(_) => None,
@@ -152,10 +153,10 @@ impl Change {
         ensures { result ≡ marking_after self }
     {
         match self {
-            Change::MarkedSoft => Some(Marking::Soft),
-            Change::MarkedHard | Change::Hardened => Some(Marking::Hard),
-            Change::Unmarked | Change::Released => Some(Marking::Up),
-            Change::Probed => None,
+            ServerChange::MarkedSoft => Some(Marking::Soft),
+            ServerChange::MarkedHard | ServerChange::Hardened => Some(Marking::Hard),
+            ServerChange::Unmarked | ServerChange::Released => Some(Marking::Up),
+            ServerChange::Probed => None,
         }
     }
 
@@ -164,18 +165,18 @@ impl Change {
         ensures { result.now ≡ change_word self }
     {
         match self {
-            Change::MarkedSoft | Change::MarkedHard => "marked",
-            Change::Hardened => "hardened",
-            Change::Unmarked => "unmarked",
-            Change::Released => "released",
-            Change::Probed => "probed",
+            ServerChange::MarkedSoft | ServerChange::MarkedHard => "marked",
+            ServerChange::Hardened => "hardened",
+            ServerChange::Unmarked => "unmarked",
+            ServerChange::Released => "released",
+            ServerChange::Probed => "probed",
         }
     }
 }
 
 impl Cause {
     /// What came of a probe, without the response.
-    pub fn of(came: &Result<Outcome, NoMemory>) -> Cause
+    pub fn of(came: &Result<Outcome, ExchangeNoMemory>) -> Cause
         ensures { result ≡ cause_of came.now }
     {
         match came {

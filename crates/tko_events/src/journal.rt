@@ -1,8 +1,8 @@
 //! The lines of the log.
 ghost use Rattle.std.specs.Prelude.{◌≡◌, ◌<◌, ◌+◌, ◌-◌, ◌^◌, IfOk, length, map, min, slice_set, string_bytes};
-ghost use Rattle.tko_events.specs.Lines.{IsBegun, address_at, count_in, known_at, mark_word, noted};
+ghost use Rattle.tko_events.specs.Lines.{IsJournalBegun, address_at, count_in, known_after, known_at, mark_word};
 
-use crate::event::{Cause, Change, Event, What};
+use crate::event::{Cause, LogEvent, ServerChange, What};
 use crate::moment::Utc;
 use std::alloc::{AllocError, Global};
 
@@ -16,7 +16,7 @@ pub(crate) enum Marked {
 
 /// What the log knows of a server.
 #[derive(Clone, Copy, Debug, PartialEq, Eq)]
-pub(crate) struct Known {
+pub(crate) struct KnownServer {
     mark: Marked,
     /// The probes since it was marked.
     probes: u64,
@@ -29,7 +29,7 @@ pub struct Journal {
     /// How many soft failures in a row mark a server.
     failures: u32,
     names: Vec<String>,
-    servers: Vec<Known>,
+    servers: Vec<KnownServer>,
 }
 
 impl Journal {
@@ -41,9 +41,9 @@ impl Journal {
         names: Vec<String>,
     ) -> Result<Journal, AllocError>
         ensures { IfOk result
-            (IsBegun (string_bytes listen) failures (map string_bytes names.items)) }
+            (IsJournalBegun (string_bytes listen) failures (map string_bytes names.items)) }
     {
-        let up = Known {
+        let up = KnownServer {
             mark: Marked::Up,
             probes: 0,
         };
@@ -57,7 +57,7 @@ impl Journal {
     }
 
     /// The line of an event; where the event has no moment, it happens at this one.
-    pub fn line(&mut self, alloc: Global, event: Event, now: u64) -> Result<String, AllocError> {
+    pub fn line(&mut self, alloc: Global, event: LogEvent, now: u64) -> Result<String, AllocError> {
         let utc = Utc(event.moment.unwrap_or(now));
         match event.what {
             What::Started => format!(in alloc; "{utc} started servers={}\n", self.names.len()),
@@ -82,7 +82,7 @@ impl Journal {
         utc: Utc,
         server: usize,
         worker: u32,
-        change: Change,
+        change: ServerChange,
         cause: Option<Cause>,
     ) -> Result<String, AllocError> {
         let word = change.word();
@@ -106,13 +106,13 @@ impl Journal {
 
     /// Notes an event of a server. Returns the server's mark from then on, and the count of its
     /// line: the failures that made a mark, or else the probes since then.
-    fn note(&mut self, server: usize, change: Change) -> (Marked, u64)
+    fn note(&mut self, server: usize, change: ServerChange) -> (Marked, u64)
         ensures others { self.new ≡ record self.old { servers = self.new.servers } }
         ensures known { server < length self.old.servers.items → self.new.servers.items
             ≡ slice_set self.old.servers.items server
-            (noted change (known_at self.old.servers.items server)) }
+            (known_after change (known_at self.old.servers.items server)) }
         ensures mark { server < length self.old.servers.items → result.0
-            ≡ (noted change (known_at self.old.servers.items server)).mark }
+            ≡ (known_after change (known_at self.old.servers.items server)).mark }
         ensures count { server < length self.old.servers.items → result.1
             ≡ count_in self.old.failures change (known_at self.old.servers.items server) }
     {
@@ -123,19 +123,19 @@ impl Journal {
     }
 }
 
-impl Known {
+impl KnownServer {
     /// Notes an event. So many failures in a row make a soft mark.
-    fn note(&mut self, failures: u64, change: Change) -> (Marked, u64)
-        ensures known { self.new ≡ noted change self.old }
+    fn note(&mut self, failures: u64, change: ServerChange) -> (Marked, u64)
+        ensures known { self.new ≡ known_after change self.old }
         ensures mark { result.0 ≡ self.new.mark }
         ensures count { result.1 ≡ count_in failures change self.old }
     {
         let count = match change {
-            Change::MarkedSoft => self.begin(Marked::Soft, failures),
-            Change::MarkedHard => self.begin(Marked::Hard, 1),
-            Change::Hardened => self.turn(Marked::Hard),
-            Change::Unmarked | Change::Released => self.turn(Marked::Up),
-            Change::Probed => self.count_probe(),
+            ServerChange::MarkedSoft => self.begin(Marked::Soft, failures),
+            ServerChange::MarkedHard => self.begin(Marked::Hard, 1),
+            ServerChange::Hardened => self.turn(Marked::Hard),
+            ServerChange::Unmarked | ServerChange::Released => self.turn(Marked::Up),
+            ServerChange::Probed => self.count_probe(),
         };
         (self.mark, count)
     }

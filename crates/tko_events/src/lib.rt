@@ -1,8 +1,8 @@
 //! The event log of a server, beside its workers: each mark of a server that was set, hardened or
 //! removed, and each probe, as a line of text.
 //!
-//! - `Event`: what the log tells, with its moment. `Change` is what became of a server's mark, or
-//!   that it was probed, and `Cause` what came of the send or of the probe.
+//! - `LogEvent`: what the log tells, with its moment. `ServerChange` is what became of a server's
+//!   mark, or that it was probed, and `Cause` what came of the send or of the probe.
 //! - `Log`: takes events from any thread and never waits for a reader; `open` makes it with its
 //!   `LogReader`, whose `write_lines` writes a line for each event.
 //! - `WorkerLog`: one worker's end of the log, which is told each attempt, probe and release.
@@ -18,7 +18,7 @@ mod moment;
 mod reader;
 mod worker_log;
 
-pub use event::{Cause, Change, Event, What};
+pub use event::{Cause, LogEvent, ServerChange, What};
 pub use journal::Journal;
 pub use log::{Log, open};
 pub use reader::LogReader;

@@ -1,6 +1,6 @@
 //! The end of the log that takes events.
 
-use crate::event::{Event, What};
+use crate::event::{LogEvent, What};
 use crate::moment::now;
 use crate::reader::LogReader;
 use crossbeam_channel::{Sender, TrySendError, bounded};
@@ -18,8 +18,8 @@ const TRIES: u32 = 16;
 
 /// What all ends of a log share.
 #[derive(Drop)]
-pub(crate) struct Shared {
-    pub(crate) sender: Sender<Event>,
+pub(crate) struct SharedLog {
+    pub(crate) sender: Sender<LogEvent>,
     pub(crate) lost: AtomicU64,
     pub(crate) sessions: AtomicU64,
     pub(crate) faults: AtomicU64,
@@ -30,7 +30,7 @@ pub(crate) struct Shared {
 /// lost and counted. A log that is off takes nothing. With it goes the meter of the same server.
 #[derive(Drop)]
 pub struct Log {
-    shared: Option<Arc<Shared, Global>>,
+    shared: Option<Arc<SharedLog, Global>>,
     meter: Meter,
 }
 
@@ -39,7 +39,7 @@ pub fn open(alloc: Global) -> Result<(Log, LogReader), AllocError> {
     let (sender, receiver) = bounded(alloc, WAITING)?;
     let shared = Arc::new(
         alloc,
-        Shared {
+        SharedLog {
             sender,
             lost: AtomicU64::new(0),
             sessions: AtomicU64::new(0),
@@ -105,7 +105,7 @@ impl Log {
     pub fn tell<R: Wait + Clock>(&self, rt: &R, what: What) {
         if self.is_on() {
             let moment = Some(now(rt));
-            self.send(rt, Event { moment, what });
+            self.send(rt, LogEvent { moment, what });
         }
     }
 
@@ -128,7 +128,7 @@ impl Log {
     }
 
     /// Sends an event, or counts it as lost.
-    pub(crate) fn send<R: Wait>(&self, rt: &R, event: Event) {
+    pub(crate) fn send<R: Wait>(&self, rt: &R, event: LogEvent) {
         let Some(shared) = &self.shared else {
             return;
         };

@@ -1,8 +1,8 @@
 //! The end of the log that gives events.
 
-use crate::event::{Event, What};
+use crate::event::{LogEvent, What};
 use crate::journal::Journal;
-use crate::log::Shared;
+use crate::log::SharedLog;
 use crate::moment::{Utc, now};
 use crossbeam_channel::{Receiver, RecvTimeoutError};
 use std::alloc::{AllocError, Global};
@@ -19,8 +19,8 @@ const SUM_EVERY: u64 = 10_000;
 /// The end of the log that gives events.
 #[derive(Drop)]
 pub struct LogReader {
-    pub(crate) receiver: Receiver<Event>,
-    pub(crate) shared: Arc<Shared, Global>,
+    pub(crate) receiver: Receiver<LogEvent>,
+    pub(crate) shared: Arc<SharedLog, Global>,
 }
 
 /// What was written of the clients.
@@ -56,7 +56,7 @@ impl LogReader {
             self.write_sum(rt, alloc, journal, &mut sum, SUM_EVERY);
         }
         self.write_sum(rt, alloc, journal, &mut sum, 0);
-        let ended = Event {
+        let ended = LogEvent {
             moment: None,
             what: What::Ended,
         };
@@ -93,7 +93,7 @@ impl LogReader {
         }
         *sum = Sum { moment, faults };
         let sessions = self.shared.sessions.load(Ordering::SeqCst);
-        let event = Event {
+        let event = LogEvent {
             moment: Some(moment),
             what: What::Clients { sessions, faults },
         };
@@ -102,7 +102,7 @@ impl LogReader {
 }
 
 /// Writes the line of an event.
-fn write_event<R: Clock + Eprint>(rt: &R, alloc: Global, journal: &mut Journal, event: Event) {
+fn write_event<R: Clock + Eprint>(rt: &R, alloc: Global, journal: &mut Journal, event: LogEvent) {
     if let Ok(line) = journal.line(alloc, event, now(rt)) {
         let _ = rt.eprint(line.as_str());
     }

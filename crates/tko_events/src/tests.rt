@@ -1,12 +1,12 @@
 //! The lines of the log, and what a worker's end of it sends.
 
 use crate::WorkerLog;
-use crate::event::{Cause, Change, Event, What};
+use crate::event::{Cause, LogEvent, ServerChange, What};
 use crate::journal::Journal;
 use crate::log::{WAITING, open};
 use std::alloc::{AllocError, Global};
 use std::sync::atomic::Ordering;
-use tko_links::{NoMemory, Outcome};
+use tko_links::{ExchangeNoMemory, Outcome};
 use tko_model::{Mark, Reply};
 
 /// 2026-11-23, 12:41:41.007 in UTC.
@@ -35,7 +35,7 @@ fn journal(alloc: Global) -> Result<Journal, AllocError> {
     Journal::new(alloc, listen, 5, names)
 }
 
-fn of_server(change: Change, cause: Option<Cause>) -> What {
+fn of_server(change: ServerChange, cause: Option<Cause>) -> What {
     What::Server {
         server: 1,
         worker: 3,
@@ -51,7 +51,7 @@ fn append_line(
     what: What,
 ) -> Result<(), AllocError> {
     let moment = None;
-    let line = journal.line(alloc, Event { moment, what }, MOMENT)?;
+    let line = journal.line(alloc, LogEvent { moment, what }, MOMENT)?;
     text.push_str(line.as_str())
 }
 
@@ -62,13 +62,13 @@ fn a_line_for_each_event(rt: HostRuntime) -> Result<(), AllocError> {
     let events = [
         What::Started,
         What::Listening,
-        of_server(Change::MarkedSoft, Some(Cause::Timeout)),
-        of_server(Change::Probed, Some(Cause::Refused)),
-        of_server(Change::Hardened, Some(Cause::Refused)),
-        of_server(Change::Probed, Some(Cause::Reply)),
-        of_server(Change::Unmarked, Some(Cause::Reply)),
-        of_server(Change::MarkedHard, Some(Cause::Refused)),
-        of_server(Change::Released, None),
+        of_server(ServerChange::MarkedSoft, Some(Cause::Timeout)),
+        of_server(ServerChange::Probed, Some(Cause::Refused)),
+        of_server(ServerChange::Hardened, Some(Cause::Refused)),
+        of_server(ServerChange::Probed, Some(Cause::Reply)),
+        of_server(ServerChange::Unmarked, Some(Cause::Reply)),
+        of_server(ServerChange::MarkedHard, Some(Cause::Refused)),
+        of_server(ServerChange::Released, None),
         What::Clients {
             sessions: 9,
             faults: 2,
@@ -103,14 +103,14 @@ fn a_workers_end_sends_what_it_is_told(rt: HostRuntime) -> Result<(), AllocError
     worker.tell_attempt(&rt, 1, &Outcome::Timeout, Reply::Counted(1));
     worker.tell_attempt(&rt, 1, &Outcome::Timeout, Reply::TookSoft);
     worker.tell_probe(&rt, 1, &Ok(Outcome::Refused), Some(Reply::Hardened));
-    worker.tell_probe(&rt, 1, &Err(NoMemory { sent: true }), None);
+    worker.tell_probe(&rt, 1, &Err(ExchangeNoMemory { sent: true }), None);
     worker.tell_release(&rt, 1, Reply::Released(Mark::Hard(3)));
     for what in [
-        of_server(Change::MarkedSoft, Some(Cause::Timeout)),
-        of_server(Change::Probed, Some(Cause::Refused)),
-        of_server(Change::Hardened, Some(Cause::Refused)),
-        of_server(Change::Probed, Some(Cause::Memory)),
-        of_server(Change::Released, None),
+        of_server(ServerChange::MarkedSoft, Some(Cause::Timeout)),
+        of_server(ServerChange::Probed, Some(Cause::Refused)),
+        of_server(ServerChange::Hardened, Some(Cause::Refused)),
+        of_server(ServerChange::Probed, Some(Cause::Memory)),
+        of_server(ServerChange::Released, None),
     ] {
         let sent = reader.receiver.try_recv(&rt).ok().map(|event| event.what);
         assert_eq!(&rt; sent, Some(what));

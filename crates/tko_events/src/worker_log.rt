@@ -1,12 +1,12 @@
 //! One worker's end of the log and of the meter.
 
-use crate::event::{Change, Event, What};
+use crate::event::{LogEvent, ServerChange, What};
 use crate::log::Log;
 use crate::moment::now;
 use std::alloc::AllocError;
 use std::sync::Wait;
 use std::time::Clock;
-use tko_links::{NoMemory, Outcome};
+use tko_links::{ExchangeNoMemory, Outcome};
 use tko_metrics::WorkerMeter;
 use tko_model::Reply;
 
@@ -66,7 +66,7 @@ impl WorkerLog {
         &self,
         rt: &R,
         server: usize,
-        came: &Result<Outcome, NoMemory>,
+        came: &Result<Outcome, ExchangeNoMemory>,
         reply: Option<Reply>,
     ) {
         if !self.is_on() {
@@ -98,6 +98,6 @@ impl WorkerLog {
         if let Some((server, mark)) = what.marking() {
             self.meter.set_mark(server, mark, moment.unwrap_or(0));
         }
-        self.log.send(rt, Event { moment, what });
+        self.log.send(rt, LogEvent { moment, what });
     }
 }

@@ -27,5 +27,5 @@ names_of (array items) = map pool_named (list_in (codes "children") (array items
 names_of (object members) = map pool_named (list_in (codes "children") (object members))
 
 -- the pools that the route of a configuration names
-abbrev pub names_in : Data → List (List ℕ)
-names_in root = unwrap_or (option_map names_of (get (codes "route") root)) []
+abbrev pub pool_names_of : Data → List (List ℕ)
+pool_names_of root = unwrap_or (option_map names_of (get (codes "route") root)) []

@@ -7,14 +7,14 @@ use Rattle.serde_json.specs.Data.{Data, null, boolean, number, string, array, ob
 use Rattle.serde_json.specs.Find.{get}
 use Rattle.serde_json.specs.Read.{read}
 use Rattle.tko_pools.specs.Addresses.{is_address}
-use Rattle.tko_pools.specs.Json.{Pool, child_name, pools_of, text_of}
+use Rattle.tko_pools.specs.Json.{Pool, child_name, pools_of, text_of_value}
 use Rattle.tko_pools.specs.declared.fault.ConfigFault.{ConfigFault}
 use Rattle.tko_pools.specs.declared.fault.ConfigFault.TheVariants as fault
 use Rattle.tko_explain.specs.Parts.{list_in, members_in}
 
 -- the place of the first text that is no address, counted from 1
-abbrev pub bad_place : List (List ℕ) → Option ℕ
-bad_place texts = position_from (λ text. not (is_address text)) 1 texts
+abbrev pub bad_address_place : List (List ℕ) → Option ℕ
+bad_address_place texts = position_from (λ text. not (is_address text)) 1 texts
 
 -- a place in the list of a pool, or without one these words
 abbrev pub place_or : List ℕ → Option ℕ → List ℕ → List ℕ
@@ -23,14 +23,15 @@ place_or name (Some place) others =
 place_or name None others = others
 
 -- where the first text stands that is no address
-abbrev pub place_text : List Pool → List ℕ
-place_text [] = []
-place_text (pool ∷ pools) = place_or pool.name (bad_place pool.servers) (place_text pools)
+abbrev pub bad_address_text : List Pool → List ℕ
+bad_address_text [] = []
+bad_address_text (pool ∷ pools) =
+    place_or pool.name (bad_address_place pool.servers) (bad_address_text pools)
 
 -- the same in the object of pools of a configuration
 abbrev pub root_place_text : Data → List ℕ
 root_place_text root =
-    place_text (pools_of (members_in (unwrap_or (get (codes "pools") root) root)))
+    bad_address_text (pools_of (members_in (unwrap_or (get (codes "pools") root) root)))
 
 -- why a text is no address
 abbrev pub address_text : List ℕ → List ℕ
@@ -38,9 +39,10 @@ address_text text =
     if length text == 0 then codes "it is empty or no text"
     else quoted text ++ codes " is no address <host>:<port>"
 
-abbrev pub names_failover : Option Data → Bool
-names_failover kind =
-    unwrap_or (option_map (λ value. bytes_eq (text_of value) (codes "FailoverRoute")) kind) false
+abbrev pub is_failover_kind : Option Data → Bool
+is_failover_kind kind =
+    unwrap_or (option_map (λ value. bytes_eq (text_of_value value) (codes "FailoverRoute")) kind)
+    false
 
 abbrev pub is_child : List ℕ → Bool
 is_child text = is_some (child_name text)
@@ -52,7 +54,7 @@ are_children texts = not (length texts == 0) && list_all is_child texts
 -- what is wrong with a route that is an object
 abbrev pub object_text : Data → List ℕ
 object_text route =
-    if not (names_failover (get (codes "type") route))
+    if not (is_failover_kind (get (codes "type") route))
     then codes "the route's type is not FailoverRoute"
     else if not (are_children (list_in (codes "children") route))
     then codes "the route's children are no list of one or more texts PoolRoute|<pool>"

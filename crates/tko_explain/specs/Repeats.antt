@@ -4,7 +4,7 @@ use Rattle.json.specs.Json.{document}
 use Rattle.json.specs.Print.{quoted}
 use Rattle.json.specs.Strict.{HasUniqueKeys}
 use Rattle.serde_json.specs.Data.{Data, Members, no_members, member}
-use Rattle.tko_explain.specs.Parts.{list_in, names_in}
+use Rattle.tko_explain.specs.Parts.{list_in, pool_names_of}
 use Rattle.tko_explain.specs.Warnings.{is_among, members_at}
 
 -- a name, where it is among these that follow it
@@ -32,7 +32,7 @@ pools_again (member name pool others) = servers_again name pool ++ pools_again o
 -- each pool that the route names again, and then each server that its pool names again
 abbrev pub repeats_text : Data → List ℕ
 repeats_text root =
-    names_again (codes "warning: pool ") (codes " is named again by the route") (names_in root)
+    names_again (codes "warning: pool ") (codes " is named again by the route") (pool_names_of root)
     ++ pools_again (members_at (codes "pools") root)
 
 -- what is said of an object with a key twice

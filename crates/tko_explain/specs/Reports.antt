@@ -4,17 +4,17 @@ use Rattle.serde_json.specs.Data.{Data}
 use Rattle.tko_pools.specs.Configs.{Configuration, IsMeaning, IsRoot, child_of, targets_of}
 use Rattle.tko_pools.specs.Json.{pools_in}
 use Rattle.tko_pools.specs.SoftLimits.{soft_limit_named}
-use Rattle.tko_explain.specs.Parts.{names_in}
+use Rattle.tko_explain.specs.Parts.{pool_names_of}
 use Rattle.tko_explain.specs.Printing.{named_line}
 use Rattle.tko_explain.specs.Repeats.{IsKeyText, repeats_text}
 use Rattle.tko_explain.specs.Warnings.{warnings_text}
 
 -- the addresses, which have the numbers from this one on
-abbrev pub servers_text : ℕ → List (List ℕ) → List ℕ
-servers_text number [] = []
-servers_text number (address ∷ others) =
+abbrev pub addresses_text : ℕ → List (List ℕ) → List ℕ
+addresses_text number [] = []
+addresses_text number (address ∷ others) =
     codes "server " ++ decimal number ++ codes " " ++ address ++ codes "\n"
-    ++ servers_text (number + 1) others
+    ++ addresses_text (number + 1) others
 
 -- the soft limit of a pool, if it has one
 unfoldable pub limit_text : List ℕ → Option ℕ → List ℕ
@@ -33,19 +33,19 @@ abbrev pub expiry_text : ℕ → List ℕ
 expiry_text seconds = codes "failover_exptime " ++ decimal seconds ++ codes "\n"
 
 -- each key, with its targets
-abbrev pub keys_text : Configuration → List (List ℕ) → List ℕ
-keys_text config [] = []
-keys_text config (key ∷ others) =
-    named_line (codes "key ") key (targets_of config key) ++ keys_text config others
+abbrev pub routed_keys_text : Configuration → List (List ℕ) → List ℕ
+routed_keys_text config [] = []
+routed_keys_text config (key ∷ others) =
+    named_line (codes "key ") key (targets_of config key) ++ routed_keys_text config others
 
 -- the servers and the pools of the route
 abbrev pub config_text : Data → Data → Configuration → List ℕ
 config_text root pools config =
-    servers_text 0 config.addresses ++ children_text config.addresses pools (names_in root)
+    addresses_text 0 config.addresses ++ children_text config.addresses pools (pool_names_of root)
 
 -- the greatest expiry and the targets of the keys
 abbrev pub targets_text : Configuration → List (List ℕ) → List ℕ
-targets_text config keys = expiry_text config.failover_exptime ++ keys_text config keys
+targets_text config keys = expiry_text config.failover_exptime ++ routed_keys_text config keys
 
 -- what is printed of the configuration of this object over these pools
 abbrev pub report_text : Data → Data → Configuration → List (List ℕ) → List ℕ

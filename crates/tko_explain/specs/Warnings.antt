@@ -5,7 +5,7 @@ use Rattle.std.specs.Str.{bytes_eq}
 use Rattle.json.specs.Print.{quoted}
 use Rattle.serde_json.specs.Data.{Data, Members, no_members, member}
 use Rattle.serde_json.specs.Find.{get}
-use Rattle.tko_explain.specs.Parts.{members_in, names_in}
+use Rattle.tko_explain.specs.Parts.{members_in, pool_names_of}
 
 -- the keys that are read, of the whole, of a pool and of a route
 abbrev pub root_keys : List (List ℕ)
@@ -61,4 +61,4 @@ abbrev pub warnings_text : Data → List ℕ
 warnings_text root =
     ignored_text [] root_keys (members_in root)
     ++ ignored_text (codes " of the route") route_keys (members_at (codes "route") root)
-    ++ pools_text (names_in root) (members_at (codes "pools") root)
+    ++ pools_text (pool_names_of root) (members_at (codes "pools") root)

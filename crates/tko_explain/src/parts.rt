@@ -1,7 +1,7 @@
 //! Parts of a configuration's JSON.
 ghost use Rattle.std.specs.Prelude.{◌≡◌, ◌++◌, IfOk, OnOk, map};
 ghost use Rattle.serde_json.specs.View.{items_view, view};
-ghost use Rattle.tko_explain.specs.Parts.{list_in, names_in, pool_named};
+ghost use Rattle.tko_explain.specs.Parts.{list_in, pool_named, pool_names_of};
 ghost use Rattle.tko_pools.specs.Json.{texts_of};
 
 use serde_json::Value;
@@ -21,7 +21,8 @@ pub(crate) fn list_in<'a>(key: &str, value: &'a Value) -> &'a [Value]
 
 /// The pools that the route of a configuration names.
 pub(crate) fn names_in(alloc: Global, root: &Value) -> Result<Vec<&str>, NoMemory>
-    ensures { IfOk result (λ names. map (λ name. name.now) names.items ≡ names_in (view root.now)) }
+    ensures { IfOk result (λ names.
+        map (λ name. name.now) names.items ≡ pool_names_of (view root.now)) }
 {
     let mut names = Vec::new(alloc);
     match root.get("route") {

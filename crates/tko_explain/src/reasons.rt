@@ -2,7 +2,7 @@
 //! it.
 ghost use Rattle.std.specs.Prelude.{◌≡◌, ◌++◌, [], Some, IfOk, OnOk, option_map};
 ghost use Rattle.serde_json.specs.View.{items_view, members_view, view};
-ghost use Rattle.tko_explain.specs.Reasons.{IsReasonOf, address_text, are_children, bad_place, flaw_text, is_child, names_failover, object_text, place_or, place_text, reason_line, root_place_text, route_text};
+ghost use Rattle.tko_explain.specs.Reasons.{IsReasonOf, address_text, are_children, bad_address_place, bad_address_text, flaw_text, is_child, is_failover_kind, object_text, place_or, reason_line, root_place_text, route_text};
 ghost use Rattle.tko_pools.specs.Json.{pools_of, texts_of};
 
 use crate::parts::list_in;
@@ -91,7 +91,7 @@ fn append_place(
     pools: &Map<String, Value>,
 ) -> Result<(), NoMemory>
     ensures { OnOk result (out.new.items
-        ≡ out.old.items ++ place_text (pools_of (members_view pools.now.entries))) }
+        ≡ out.old.items ++ bad_address_text (pools_of (members_view pools.now.entries))) }
 {
     for (name, pool) in pools {
         if let Some(place) = bad_place(list_in("servers", pool)) {
@@ -114,7 +114,7 @@ fn append_server(alloc: Global, out: &mut Vec<u8>, name: &str, place: usize) -> 
 
 /// The place of the first item of a list that is no address, counted from 1.
 fn bad_place(servers: &[Value]) -> Option<usize>
-    ensures { result ≡ bad_place (texts_of (items_view servers.now)) }
+    ensures { result ≡ bad_address_place (texts_of (items_view servers.now)) }
 {
     for (index, value) in servers.iter().enumerate() {
         if !is_address(text_of(value).as_bytes()) {
@@ -164,7 +164,7 @@ fn object_text(route: &Value) -> &'static str
 }
 
 fn names_failover(kind: Option<&Value>) -> bool
-    ensures { result ≡ names_failover (option_map (λ kind. view kind.now) kind.entry) }
+    ensures { result ≡ is_failover_kind (option_map (λ kind. view kind.now) kind.entry) }
 {
     match kind {
         Some(value) => text_of(value) == "FailoverRoute",

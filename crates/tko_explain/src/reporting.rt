@@ -3,7 +3,7 @@ ghost use Rattle.std.specs.Prelude.{◌≡◌, ◌++◌, IfOk, IfErr, OnOk, map,
 ghost use Rattle.std.specs.List.{position};
 ghost use Rattle.std.specs.Str.{bytes_eq};
 ghost use Rattle.serde_json.specs.View.{items_view, view};
-ghost use Rattle.tko_explain.specs.Reports.{IsReport, children_text, config_text, expiry_text, keys_text, limit_text, report_text, servers_text, targets_text, values_note};
+ghost use Rattle.tko_explain.specs.Reports.{IsReport, addresses_text, children_text, config_text, expiry_text, limit_text, report_text, routed_keys_text, targets_text, values_note};
 ghost use Rattle.tko_pools.specs.Configs.{Refuses, child_of};
 ghost use Rattle.tko_pools.specs.Json.{texts_of};
 ghost use Rattle.tko_pools.specs.Numbering.{number_in};
@@ -110,7 +110,7 @@ fn append_expiry(out: &mut Vec<u8>, seconds: u32) -> Result<(), NoMemory>
 
 fn append_servers(out: &mut Vec<u8>, addresses: &[String]) -> Result<(), NoMemory>
     ensures { OnOk result
-        (out.new.items ≡ out.old.items ++ servers_text 0 (map string_bytes addresses.now)) }
+        (out.new.items ≡ out.old.items ++ addresses_text 0 (map string_bytes addresses.now)) }
 {
     for (number, address) in addresses.iter().enumerate() {
         append_number(out, b"server ", number as u64)?;
@@ -203,7 +203,7 @@ fn append_keys(
     keys: &[String],
 ) -> Result<(), NoMemory>
     ensures { OnOk result
-        (out.new.items ≡ out.old.items ++ keys_text config.now (map string_bytes keys.now)) }
+        (out.new.items ≡ out.old.items ++ routed_keys_text config.now (map string_bytes keys.now)) }
 {
     for key in keys {
         let targets = config.targets(alloc, key.as_bytes())?;

@@ -11,7 +11,7 @@ use Rattle.tko_steps.specs.declared.phase.ThreadState.TheVariants.{Idle}
 use Rattle.tko_steps.specs.Steps.{begun_by}
 use Rattle.tko_table.specs.declared.pass.Change.{Change}
 use Rattle.tko_table.specs.declared.pass.Made.{Made}
-use Rattle.tko_table.specs.declared.pass.Pass.{Pass}
+use Rattle.tko_table.specs.declared.pass.PassView.{PassView}
 use Rattle.tko_table.specs.History.{changes_in, made_by, made_with, place_of_answer}
 use Rattle.tko_table.proofs.AddedChangeLemmas.{changes_in-append, made_by-append}
 use Rattle.tko_tracker.specs.History.{Adds, IsAnsweredAt, own_change}
@@ -54,7 +54,7 @@ replied-later s number op server answer at begun seen more is =
       change = is.change;
     }
 
-replied-own : (s : Settings) (number : ℕ) (op : Op) (server : ℕ) (answer : Reply) (before after : Pass) (more : List Change) (adds : Adds before op server answer after)
+replied-own : (s : Settings) (number : ℕ) (op : Op) (server : ℕ) (answer : Reply) (before after : PassView) (more : List Change) (adds : Adds before op server answer after)
     → before.settings ≡ s → number ≡ adds.number → IsRepliedIn s number (after.seen ++ more) (made_with (begun_by number op server) answer adds.at)
 replied-own s number op server answer before after more adds settings same place is =
     let at = placed answer adds.at place is in
@@ -66,7 +66,7 @@ replied-own s number op server answer before after more adds settings same place
 
 -- ---- a record
 
-calls-none : (number : ℕ) (pass : Pass) → MakesCalls number pass [] pass
+calls-none : (number : ℕ) (pass : PassView) → MakesCalls number pass [] pass
 calls-none number pass =
     record {
       makes = record { mine = sym (append-nil pass.mine); more = []; seen = sym (append-nil pass.seen); own = refl };
@@ -74,7 +74,7 @@ calls-none number pass =
     }
 
 -- a call, and then the others
-calls-first : (number : ℕ) (op : Op) (server : ℕ) (answer : Reply) (old mid new : Pass) (calls : List Made) (adds : Adds old op server answer mid)
+calls-first : (number : ℕ) (op : Op) (server : ℕ) (answer : Reply) (old mid new : PassView) (calls : List Made) (adds : Adds old op server answer mid)
     → number ≡ adds.number → mid.settings ≡ old.settings → MakesCalls number mid calls new
     → MakesCalls number old (made_with (begun_by number op server) answer adds.at ∷ calls) new
 calls-first number op server answer old mid new calls adds same settings behind =

@@ -17,7 +17,7 @@ use Rattle.tko_model.specs.declared.mark.Reply.{Reply}
 use Rattle.tko_model.specs.declared.mark.Reply.TheVariants as reply
 use Rattle.tko_model.specs.Looks.{look_of}
 use Rattle.tko_health.specs.Health.{look_item, reply_of_look}
-use Rattle.tko_health.specs.Locked.{IsFound, IsLockedStep, OwnsNone, SeatState, is_own, noted}
+use Rattle.tko_health.specs.Locked.{IsLockedStep, IsTrackerFound, OwnsNone, SeatState, is_own, seat_noted}
 
 abbrev room_in : Tracker → ℕ → Bool
 room_in tracker server = has_room tracker.settings tracker.servers server
@@ -57,15 +57,15 @@ look_reply_is s room thread server (Hard owner) stamp =
 
 -- what a look-up of the tracker found is a step of the record
 pub locked_look : {settings : Settings} {tracker : Tracker} {old new : SeatState} {server : ℕ} {found : Look}
-    → IsFound settings tracker → found ≡ look_of server (server_at tracker.servers server).mark
-    → new ≡ noted server (server_at tracker.servers server).mark old
+    → IsTrackerFound settings tracker → found ≡ look_of server (server_at tracker.servers server).mark
+    → new ≡ seat_noted server (server_at tracker.servers server).mark old
     → IsLockedStep settings old (look_item server found) new
 locked_look {tracker} {old} {server} is found seat = record {
   tracker = tracker;
   found = is;
   reply = ap reply_of_look found ∙ look_reply_is tracker.settings (room_in tracker server) old.thread server
       (server_at tracker.servers server).mark (server_at tracker.servers server).stamp;
-  seat = seat ∙ ap (λ (t : Tracker). noted server (server_at t.servers server).mark old) (sym (look_stays tracker old.thread server));
+  seat = seat ∙ ap (λ (t : Tracker). seat_noted server (server_at t.servers server).mark old) (sym (look_stays tracker old.thread server));
 }
 
 -- the mark that a server with this mark has after this change is not the thread's

@@ -7,7 +7,7 @@ use Rattle.tko_model.specs.declared.mark.Op.TheVariants.{Release}
 use Rattle.tko_model.specs.declared.mark.Reply.{Reply}
 use Rattle.tko_model.specs.Records.{Called, HealthItem}
 use Rattle.tko_model.proofs.RecordLemmas.{gains_append, gains_none, gains_push}
-use Rattle.tko_health.specs.Seating.{IsRelease, Leaves, Releases}
+use Rattle.tko_health.specs.Seating.{IsReleaseItem, Leaves, ReleasesMarks}
 
 -- equal errors, with another type beside them
 pub same_error : {A B E : Type 0} {x y : E} (left right : Result A E) (one other : Result B E)
@@ -34,18 +34,18 @@ all_below n numbers e =
     subst P (sym e) each
 
 -- a worker that made no call
-pub releases_none : {W : Type 0} {steps : W → HealthItem → W → Type 0} (at : W) → Releases steps at at
-releases_none at = record { items = []; each = All-nil IsRelease; gains = gains_none at }
+pub releases_none : {W : Type 0} {steps : W → HealthItem → W → Type 0} (at : W) → ReleasesMarks steps at at
+releases_none at = record { items = []; each = All-nil IsReleaseItem; gains = gains_none at }
 
 -- one more release
 pub releases_more : {W : Type 0} {steps : W → HealthItem → W → Type 0} {old mid new : W} {server : ℕ} {answer : Reply}
-    → Releases steps old mid → steps mid (Called Release server answer) new → Releases steps old new
+    → ReleasesMarks steps old mid → steps mid (Called Release server answer) new → ReleasesMarks steps old new
 releases_more {server} {answer} made last =
     let item : HealthItem = Called Release server answer in
     record {
       items = made.items ++ item ∷ [];
-      each = All-append IsRelease made.items (item ∷ []) made.each
-          (All-cons IsRelease item [] (record { server = server; answer = answer; is = refl }) (All-nil IsRelease));
+      each = All-append IsReleaseItem made.items (item ∷ []) made.each
+          (All-cons IsReleaseItem item [] (record { server = server; answer = answer; is = refl }) (All-nil IsReleaseItem));
       gains = gains_push made.gains last;
     }
 
@@ -56,18 +56,18 @@ leaves_at_once {worker} back = record { last = worker; releases = releases_none 
 
 -- a worker that made releases, and left
 pub leaves_released : {W I : Type 0} {steps : W → HealthItem → W → Type 0} {gives_back : W → I → Type 0} {worker last : W} {idle : I}
-    → Releases steps worker last → gives_back last idle → Leaves steps gives_back worker idle
+    → ReleasesMarks steps worker last → gives_back last idle → Leaves steps gives_back worker idle
 leaves_released {last} made back = record { last = last; releases = made; back = back }
 
 -- a worker that made releases first
 pub leaves_later : {W I : Type 0} {steps : W → HealthItem → W → Type 0} {gives_back : W → I → Type 0} {worker mid : W} {idle : I}
-    → Releases steps worker mid → Leaves steps gives_back mid idle → Leaves steps gives_back worker idle
+    → ReleasesMarks steps worker mid → Leaves steps gives_back mid idle → Leaves steps gives_back worker idle
 leaves_later made left =
     record {
       last = left.last;
       releases = record {
         items = made.items ++ left.releases.items;
-        each = All-append IsRelease made.items left.releases.items made.each left.releases.each;
+        each = All-append IsReleaseItem made.items left.releases.items made.each left.releases.each;
         gains = gains_append made.gains left.releases.gains;
       };
       back = left.back;

@@ -19,9 +19,9 @@ abbrev pub look_item : ℕ → Look → HealthItem
 look_item server found = Called LookUp server (reply_of_look found)
 
 -- a permission to send names this server
-abbrev pub Names : ℕ → Look → Type 0
-Names server (look.Up count clear) = clear ≡ server
-Names server (look.Marked mark) = Unit {0}
+abbrev pub NamesServer : ℕ → Look → Type 0
+NamesServer server (look.Up count clear) = clear ≡ server
+NamesServer server (look.Marked mark) = Unit {0}
 
 -- a tracker that one thread has to itself, and that thread's number
 pub record OneThread : Type 0 where

@@ -9,15 +9,15 @@ use Rattle.tko_steps.specs.declared.phase.ThreadState.TheVariants.{Idle}
 use Rattle.tko_steps.specs.Cost.{most_steps}
 use Rattle.tko_table.specs.declared.pass.Change.{Change}
 use Rattle.tko_table.specs.declared.pass.Made.{Made}
-use Rattle.tko_table.specs.declared.pass.Pass.{Pass}
+use Rattle.tko_table.specs.declared.pass.PassView.{PassView}
 use Rattle.tko_table.specs.Passes.{owns}
 use Rattle.tko_tracker.specs.Calls.{owned_left}
 use Rattle.tko_tracker.specs.History.{IsAnsweredAt}
 use Rattle.tko_tracker.specs.Seated.{Answered, IsOf, Makes, OwnsNothing, Seated, TrackerId}
 
 -- the server's mark names the pass's thread
-abbrev pub IsOwner : Seated → ℕ → Type 0
-IsOwner seated server = owns seated.pass.owned server ≡ true
+abbrev pub IsSeatOwner : Seated → ℕ → Type 0
+IsSeatOwner seated server = owns seated.pass.owned server ≡ true
 
 -- a worker begins with its idle pass as it is, and owns no server
 pub record IsSeated (idle worker : Seated) : Type 0 where
@@ -67,7 +67,8 @@ IsRepliedIn s number history made =
 -- calls that the thread of this number made, from one pass to the next: they go last in its calls,
 -- each with the sequential tracker's reply at a place of the history that the pass has then seen;
 -- and that history begins with what it had seen, its thread's changes since then being the calls'
-pub record MakesCalls (number : ℕ) (old : Pass) (calls : List Made) (new : Pass) : Type 0 where
+pub record MakesCalls (number : ℕ) (old : PassView) (calls : List Made) (new : PassView)
+    : Type 0 where
   pub makes : Makes number old calls new
   pub replied : All (IsRepliedIn old.settings number new.seen) calls
 

@@ -36,18 +36,18 @@ is_own thread (Soft owner) = owner == thread
 is_own thread (Hard owner) = owner == thread
 
 -- the seat once its thread knows this mark of a server
-abbrev pub noted : ℕ → Mark → SeatState → SeatState
-noted server mark seat =
+abbrev pub seat_noted : ℕ → Mark → SeatState → SeatState
+seat_noted server mark seat =
     record seat { owned = slice_set seat.owned server (is_own seat.thread mark) }
 
 -- the seat after an item whose call found this tracker: it knows the mark that the call left
 abbrev pub seat_after : Tracker → HealthItem → SeatState → SeatState
 seat_after tracker (Called op server answer) seat =
-    noted server (server_at (after tracker seat.thread op server).servers server).mark seat
+    seat_noted server (server_at (after tracker seat.thread op server).servers server).mark seat
 seat_after tracker (NoDuty server) seat = seat
 
 -- the tracker as a call of any thread may find it
-pub record IsFound (settings : Settings) (tracker : Tracker) : Type 0 where
+pub record IsTrackerFound (settings : Settings) (tracker : Tracker) : Type 0 where
   pub opened : tracker.settings ≡ settings
   pub within : IsTracker tracker
 
@@ -56,21 +56,21 @@ pub record IsFound (settings : Settings) (tracker : Tracker) : Type 0 where
 pub record IsLockedStep (settings : Settings) (old : SeatState) (it : HealthItem) (new : SeatState)
     : Type 0 where
   pub tracker : Tracker
-  pub found : IsFound settings tracker
+  pub found : IsTrackerFound settings tracker
   pub reply : HasReply tracker old.thread it
   pub seat : new ≡ seat_after tracker it old
 
 -- a tracker that a call of this thread may find gives it the right to probe this server
 pub record MayGrant (settings : Settings) (seat : SeatState) (server : ℕ) : Type 0 where
   pub tracker : Tracker
-  pub found : IsFound settings tracker
+  pub found : IsTrackerFound settings tracker
   pub right : duty_of server (server_at tracker.servers server).mark seat.thread ≡ Some server
 
 -- the right to probe a server, as a tracker that the call may find grants or denies it
 pub record IsDuty (settings : Settings) (seat : SeatState) (server : ℕ) (duty : Option ℕ)
     : Type 0 where
   pub tracker : Tracker
-  pub found : IsFound settings tracker
+  pub found : IsTrackerFound settings tracker
   pub exact : duty ≡ duty_of server (server_at tracker.servers server).mark seat.thread
 
 -- an idle seat of this number, and a worker's seat that is taken or given back so: the number is

@@ -1,7 +1,7 @@
 //! The health of servers, as a router and a prober ask for it.
 ghost use Rattle.std.specs.Prelude.{◌≡◌, ◌<◌, IfSome, IfNone};
 ghost use Rattle.tko_model.specs.Records.{Called, NoDuty};
-ghost use Rattle.tko_health.specs.Health.{Names, look_item};
+ghost use Rattle.tko_health.specs.Health.{NamesServer, look_item};
 
 use std::sync::Wait;
 use tko_model::{Duty, Look, Reply};
@@ -27,7 +27,7 @@ pub trait Health {
     fn look_up<R: Wait>(&mut self, rt: &R, server: usize) -> Look
         requires { server < servers self.old }
         ensures step { steps self.old (look_item server result) self.new }
-        ensures names { Names server result }
+        ensures names { NamesServer server result }
         ensures servers { servers self.new ≡ servers self.old };
 
     /// The server failed in a way that may pass, such as a timeout.

@@ -6,7 +6,7 @@ use tko_tracker::{Named, Tracker};
 
 /// The tracker that `N` names, and how many servers it has.
 #[derive(Drop)]
-pub(crate) struct Lent<'t, N: Named> {
+pub(crate) struct LentTracker<'t, N: Named> {
     pub(crate) tracker: &'t Tracker,
     pub(crate) servers: usize,
     of: PhantomData<N>,
@@ -14,12 +14,12 @@ pub(crate) struct Lent<'t, N: Named> {
     ghost count: { servers ≡ N.tracker.settings.servers },
 }
 
-impl<'t, N: Named> Lent<'t, N> {
-    pub(crate) fn new(tracker: &'t Tracker, servers: usize) -> Lent<'t, N>
+impl<'t, N: Named> LentTracker<'t, N> {
+    pub(crate) fn new(tracker: &'t Tracker, servers: usize) -> LentTracker<'t, N>
         requires named { tracker.now ≡ N.tracker }
         requires servers { servers ≡ N.tracker.settings.servers }
     {
-        Lent {
+        LentTracker {
             tracker,
             servers,
             of: PhantomData,
@@ -27,7 +27,7 @@ impl<'t, N: Named> Lent<'t, N> {
     }
 
     /// The same tracker, lent once more.
-    pub(crate) fn again(&self) -> Lent<'t, N> {
-        Lent::new(self.tracker, self.servers)
+    pub(crate) fn again(&self) -> LentTracker<'t, N> {
+        LentTracker::new(self.tracker, self.servers)
     }
 }

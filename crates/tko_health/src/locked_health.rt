@@ -4,7 +4,7 @@ ghost use Rattle.tko_model.specs.Records.{Called, NoDuty};
 ghost use Rattle.tko_health.specs.Locked.{IsDuty, IsSeat, IsLockedStep, MayGrant};
 
 use crate::health::Health;
-use crate::locked_tracker::{LockedTracker, Seat, TrackerSettings};
+use crate::locked_tracker::{LockedSeat, LockedTracker, TrackerSettings};
 use std::marker::Model;
 use std::sync::{Arc, Mutex, Wait};
 use tko_model::{Duty, Look, Op, Reply};
@@ -15,7 +15,7 @@ use tko_model::{Duty, Look, Op, Reply};
 #[derive(Drop)]
 pub struct LockedHealth<S: TrackerSettings> {
     tracker: Arc<Mutex<LockedTracker<S>>>,
-    seat: Seat,
+    seat: LockedSeat,
 }
 
 impl<S: TrackerSettings> Model for LockedHealth<S> {
@@ -29,7 +29,7 @@ impl<S: TrackerSettings> Model for LockedHealth<S> {
 }
 
 impl<S: TrackerSettings> LockedHealth<S> {
-    pub(crate) fn new(tracker: Arc<Mutex<LockedTracker<S>>>, seat: Seat) -> LockedHealth<S>
+    pub(crate) fn new(tracker: Arc<Mutex<LockedTracker<S>>>, seat: LockedSeat) -> LockedHealth<S>
         requires { IsSeat S.settings seat }
         ensures { result ≡ seat }
     {

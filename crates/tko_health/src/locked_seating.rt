@@ -3,11 +3,11 @@ ghost use Rattle.std.specs.List.{range_with_len};
 ghost use Rattle.std.specs.Prelude.{◌≡◌, ◌<◌, ◌↔◌, All, IfOk, Some};
 ghost use Rattle.tko_model.specs.Ranges.{first_fault};
 ghost use Rattle.tko_health.specs.Locked.{IsSeatOf, OwnsNone};
-ghost use Rattle.tko_health.specs.Seating.{Releases};
+ghost use Rattle.tko_health.specs.Seating.{ReleasesMarks};
 
 use crate::health::Health;
 use crate::locked_health::LockedHealth;
-use crate::locked_tracker::{LockedTracker, Seat, TrackerSettings};
+use crate::locked_tracker::{LockedSeat, LockedTracker, TrackerSettings};
 use crate::seating::Seating;
 use std::alloc::Global;
 use std::marker::{Model, PhantomData};
@@ -105,7 +105,7 @@ fn idle_seat<S: TrackerSettings>(
     requires thread { thread < S.settings.threads }
     ensures { IfOk result (λ idle. idle ≡ thread) }
 {
-    let seat = Seat::new(alloc, servers, thread)?;
+    let seat = LockedSeat::new(alloc, servers, thread)?;
     let health = LockedHealth::new(Arc::try_clone(tracker)?, seat);
     Ok(LockedIdle { health })
 }
@@ -138,7 +138,7 @@ impl<S: TrackerSettings> Seating for LockedSeating<S> {
 
 /// Releases each server.
 fn release_all<R: Wait, S: TrackerSettings>(rt: &R, health: &mut LockedHealth<S>)
-    ensures releases { Releases ⟦<LockedHealth<S> as Health>⟧.steps health.old health.new }
+    ensures releases { ReleasesMarks ⟦<LockedHealth<S> as Health>⟧.steps health.old health.new }
     ensures none { OwnsNone health.new }
 {
     let _thread = health.thread();

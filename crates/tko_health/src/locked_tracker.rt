@@ -3,7 +3,7 @@ ghost use Rattle.std.specs.Prelude.{◌≡◌, ◌<◌, IfOk, length};
 ghost use Rattle.tko_model.specs.Looks.{duty_of, look_of};
 ghost use Rattle.tko_model.specs.Tracker.{after, reply_of, server_at};
 ghost use Rattle.tko_model.specs.declared.mark.Op.TheVariants.{LookUp};
-ghost use Rattle.tko_health.specs.Locked.{IsFound, IsSeat, fresh_seat, is_own, noted};
+ghost use Rattle.tko_health.specs.Locked.{IsSeat, IsTrackerFound, fresh_seat, is_own, seat_noted};
 
 use std::alloc::Global;
 use std::marker::{Brand, Model, PhantomData};
@@ -35,12 +35,12 @@ impl TrackerSettings for Brand {
 /// A thread's place at a tracker in a lock: its number, and for each server whether the thread's
 /// last call there left the mark its own. Only calls of the tracker change it.
 #[derive(Drop)]
-pub(crate) struct Seat {
+pub(crate) struct LockedSeat {
     thread: u32,
     owned: Vec<bool>,
 }
 
-impl Model for Seat {
+impl Model for LockedSeat {
     ghost use Rattle.tko_health.specs.Locked.{SeatState};
 
     ghost Value = { SeatState };
@@ -48,12 +48,12 @@ impl Model for Seat {
     ghost view = { λ s. record { thread = s.thread; owned = s.owned.items } };
 }
 
-impl Seat {
-    pub(crate) fn new(alloc: Global, servers: usize, thread: u32) -> Result<Seat, NoMemory>
+impl LockedSeat {
+    pub(crate) fn new(alloc: Global, servers: usize, thread: u32) -> Result<LockedSeat, NoMemory>
         ensures { IfOk result (λ seat. seat ≡ fresh_seat servers thread) }
     {
         let owned = vec![in alloc; false; servers]?;
-        Ok(Seat { thread, owned })
+        Ok(LockedSeat { thread, owned })
     }
 
     pub(crate) fn thread(&self) -> u32
@@ -71,7 +71,7 @@ impl Seat {
     /// Keeps whether this mark of a server is the thread's own.
     fn note(&mut self, server: usize, mark: Mark)
         requires { server < length self.old.owned }
-        ensures { self.new ≡ noted server mark self.old }
+        ensures { self.new ≡ seat_noted server mark self.old }
     {
         self.owned[server] = is_own(self.thread, mark);
     }
@@ -117,13 +117,14 @@ impl<S: TrackerSettings> LockedTracker<S> {
     }
 
     /// Does one operation of the seat's thread. The seat then knows the mark that it left.
-    pub(crate) fn apply(&mut self, seat: &mut Seat, op: Op, server: usize) -> Reply
+    pub(crate) fn apply(&mut self, seat: &mut LockedSeat, op: Op, server: usize) -> Reply
         requires seat { IsSeat S.settings seat.old }
         requires server { server < S.settings.servers }
-        ensures found { IsFound S.settings self.old }
+        ensures found { IsTrackerFound S.settings self.old }
         ensures reply { result ≡ reply_of self.old seat.old.thread op server }
         ensures state { self.new ≡ after self.old seat.old.thread op server }
-        ensures seat { seat.new ≡ noted server (server_at self.new.servers server).mark seat.old }
+        ensures seat { seat.new ≡ seat_noted server
+            (server_at self.new.servers server).mark seat.old }
     {
         let _settings = self.plain.settings();
         let reply = self.plain.apply(seat.thread, op, server);
@@ -133,12 +134,13 @@ impl<S: TrackerSettings> LockedTracker<S> {
     }
 
     /// What a look-up finds. The seat then knows that mark.
-    pub(crate) fn look_up(&self, seat: &mut Seat, server: usize) -> Look
+    pub(crate) fn look_up(&self, seat: &mut LockedSeat, server: usize) -> Look
         requires seat { IsSeat S.settings seat.old }
         requires server { server < S.settings.servers }
-        ensures found { IsFound S.settings self.now }
+        ensures found { IsTrackerFound S.settings self.now }
         ensures look { result ≡ look_of server (server_at self.now.servers server).mark }
-        ensures seat { seat.new ≡ noted server (server_at self.now.servers server).mark seat.old }
+        ensures seat { seat.new ≡ seat_noted server
+            (server_at self.now.servers server).mark seat.old }
     {
         let _settings = self.plain.settings();
         let mark = self.plain.mark(server);
@@ -147,9 +149,9 @@ impl<S: TrackerSettings> LockedTracker<S> {
     }
 
     /// The right of the seat's thread to probe a server, where the server's mark is its own.
-    pub(crate) fn duty(&self, seat: &Seat, server: usize) -> Option<Duty>
+    pub(crate) fn duty(&self, seat: &LockedSeat, server: usize) -> Option<Duty>
         requires { server < S.settings.servers }
-        ensures found { IsFound S.settings self.now }
+        ensures found { IsTrackerFound S.settings self.now }
         ensures exact { result
             ≡ duty_of server (server_at self.now.servers server).mark seat.now.thread }
     {

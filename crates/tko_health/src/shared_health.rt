@@ -3,10 +3,10 @@ ghost use Rattle.std.specs.Prelude.{◌≡◌, ◌<◌, IfNone, IfSome, None, So
 ghost use Rattle.tko_model.specs.Records.{NoDuty};
 ghost use Rattle.tko_table.specs.Passes.{owns};
 ghost use Rattle.tko_tracker.specs.Seated.{IsOf, Retired};
-ghost use Rattle.tko_health.specs.LockFree.{IsOwner, IsPassStep};
+ghost use Rattle.tko_health.specs.LockFree.{IsPassStep, IsSeatOwner};
 
 use crate::health::Health;
-use crate::lent::Lent;
+use crate::lent::LentTracker;
 use std::marker::Model;
 use std::sync::Wait;
 use tko_model::{Duty, Look, Reply};
@@ -16,7 +16,7 @@ use tko_tracker::{IdlePass, Named, Pass, wake};
 /// Contracts see the pass: what the thread knows. No call waits for anything or takes memory.
 #[derive(Drop)]
 pub struct SharedHealth<'t, N: Named> {
-    lent: Lent<'t, N>,
+    lent: LentTracker<'t, N>,
     pass: Pass,
 }
 
@@ -31,7 +31,7 @@ impl<'t, N: Named> Model for SharedHealth<'t, N> {
 }
 
 impl<'t, N: Named> SharedHealth<'t, N> {
-    pub(crate) fn new(lent: Lent<'t, N>, idle: IdlePass) -> SharedHealth<'t, N>
+    pub(crate) fn new(lent: LentTracker<'t, N>, idle: IdlePass) -> SharedHealth<'t, N>
         requires { IsOf N.tracker idle }
         ensures { result ≡ idle }
     {
@@ -53,7 +53,7 @@ impl<'t, N: Named> Health for SharedHealth<'t, N> {
 
     ghost steps = { λ old it new. IsPassStep N.tracker old it new };
 
-    ghost grants = { λ h server. IsOwner h server };
+    ghost grants = { λ h server. IsSeatOwner h server };
 
     fn look_up<R: Wait>(&mut self, _rt: &R, server: usize) -> Look {
         self.lent.tracker.look_up(&mut self.pass, server)
@@ -81,7 +81,7 @@ impl<'t, N: Named> Health for SharedHealth<'t, N> {
         ensures exact { result ≡ (if owns self.old.pass.owned server then Some server else None) }
         ensures same { self.new ≡ self.old }
         ensures some { IfSome result (λ duty. (duty ≡ server) × (self.new ≡ self.old)) }
-        ensures right { IfSome result (λ duty. IsOwner self.old server) }
+        ensures right { IfSome result (λ duty. IsSeatOwner self.old server) }
         ensures none { IfNone result (IsPassStep N.tracker self.old (NoDuty server) self.new) }
     {
         self.lent.tracker.duty(&self.pass, server)

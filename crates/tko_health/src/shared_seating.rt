@@ -5,7 +5,7 @@ ghost use Rattle.tko_health.specs.LockFree.{IsSeated};
 ghost use Rattle.tko_health.specs.Seating.{Leaves};
 
 use crate::health::Health;
-use crate::lent::Lent;
+use crate::lent::LentTracker;
 use crate::seating::Seating;
 use crate::shared_health::SharedHealth;
 use std::sync::Wait;
@@ -15,7 +15,7 @@ use tko_tracker::{IdlePass, Named, Tracker};
 /// `tko_tracker::open` made.
 #[derive(Drop)]
 pub struct SharedSeating<'t, N: Named> {
-    lent: Lent<'t, N>,
+    lent: LentTracker<'t, N>,
 }
 
 impl<'t, N: Named> SharedSeating<'t, N> {
@@ -25,7 +25,7 @@ impl<'t, N: Named> SharedSeating<'t, N> {
         requires servers { servers ≡ N.tracker.settings.servers }
     {
         SharedSeating {
-            lent: Lent::new(tracker, servers),
+            lent: LentTracker::new(tracker, servers),
         }
     }
 }

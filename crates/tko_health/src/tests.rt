@@ -20,9 +20,9 @@ const SETTINGS: OneGroup = OneGroup {
 };
 
 /// Names these settings.
-struct Two;
+struct TwoServerSettings;
 
-impl TrackerSettings for Two {
+impl TrackerSettings for TwoServerSettings {
     ghost use Rattle.std.specs.Prelude.{[], ◌∷◌};
 
     ghost settings = { record {
@@ -64,7 +64,7 @@ fn duties<R: Wait, H: Health>(rt: &R, health: &mut H) -> [bool; 2]
 
 /// What two workers saw.
 #[derive(Debug, Drop, PartialEq, Eq)]
-struct Seen {
+struct WorkersSaw {
     /// Each cannot reach one of the servers.
     failures: [Reply; 2],
     /// What the first may probe then.
@@ -76,7 +76,7 @@ struct Seen {
     shared: [Reply; 8],
 }
 
-const SEEN: Seen = Seen {
+const SEEN: WorkersSaw = WorkersSaw {
     failures: [Reply::TookHard, Reply::TookHard],
     duties: [true, false],
     before: [Reply::Marked(Mark::Hard(0)), Reply::Marked(Mark::Hard(1))],
@@ -132,7 +132,7 @@ fn play<
     P: Drop + Send,
     H: Health + Drop + Send,
     S: Seating<Idle = P, Worker = H> + Sync,
->(rt: &R, seating: &S, first: P, second: P) -> Seen
+>(rt: &R, seating: &S, first: P, second: P) -> WorkersSaw
     requires first { S.own seating.now first }
     requires second { S.own seating.now second }
     requires servers { S.servers seating.now ≡ 2 }
@@ -147,7 +147,7 @@ fn play<
     let first = seating.leave(rt, one);
     let after = look(rt, &mut two);
     let second = seating.leave(rt, two);
-    Seen {
+    WorkersSaw {
         failures: [took, other],
         duties,
         before,
@@ -157,7 +157,9 @@ fn play<
 }
 
 /// The seats of two threads at a tracker in a lock.
-fn locked_seats(seats: Vec<LockedIdle<Two>>) -> Option<(LockedIdle<Two>, LockedIdle<Two>)>
+fn locked_seats(
+    seats: Vec<LockedIdle<TwoServerSettings>>,
+) -> Option<(LockedIdle<TwoServerSettings>, LockedIdle<TwoServerSettings>)>
     requires { All (λ idle. idle < 2) seats.items }
     ensures { IfSome result (λ two. (two.0 < 2) × (two.1 < 2)) }
 {
@@ -181,7 +183,7 @@ fn play_shared<R: Threads + Wait + Sync, N: Named + Send + Sync>(
     rt: &R,
     tracker: &Tracker,
     passes: Vec<IdlePass>,
-) -> Option<Seen>
+) -> Option<WorkersSaw>
     requires named { tracker.now ≡ N.tracker }
     requires passes { ArePasses N.tracker passes.items }
     requires servers { N.tracker.settings.servers ≡ 2 }
@@ -193,7 +195,10 @@ fn play_shared<R: Threads + Wait + Sync, N: Named + Send + Sync>(
 
 #[test]
 fn two_workers_in_a_lock(rt: HostRuntime) -> Result<(), Fail> {
-    let (seating, seats) = LockedSeating::<Two>::open(rt.alloc(), SETTINGS.settings(rt.alloc())?)?;
+    let (seating, seats) = LockedSeating::<TwoServerSettings>::open(
+        rt.alloc(),
+        SETTINGS.settings(rt.alloc())?,
+    )?;
     let (first, second) = locked_seats(seats).expect(&rt, "two seats");
     assert_eq!(rt; play(&rt, &seating, first, second), SEEN);
     Ok(())

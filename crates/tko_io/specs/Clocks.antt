@@ -14,9 +14,9 @@ pub record MomentList : Type 0 where
   pub last : ℕ
 
 -- the next moment of a list, or the last one again
-abbrev pub next_of : List ℕ → ℕ → ℕ
-next_of [] last = last
-next_of (moment ∷ left) last = moment
+abbrev pub next_moment : List ℕ → ℕ → ℕ
+next_moment [] last = last
+next_moment (moment ∷ left) last = moment
 
 abbrev pub after_first : List ℕ → List ℕ
 after_first [] = []
@@ -24,7 +24,7 @@ after_first (moment ∷ left) = left
 
 -- the first moment that is left, or the last one again
 pub record IsListed (old : MomentList) (moment : ℕ) (new : MomentList) : Type 0 where
-  pub gives : moment ≡ next_of old.left old.last
+  pub gives : moment ≡ next_moment old.left old.last
   pub left : new ≡ record { left = after_first old.left; last = moment }
 
 -- when a clock started, in nanoseconds, if it could be read since, and the last moment that it gave

@@ -12,7 +12,7 @@ use Rattle.tko_links.specs.declared.links.Outcome.TheVariants as outcome
 use Rattle.tko_text.specs.SentRequests.{without_noreply}
 use Rattle.tko_text.specs.declared.request.Request.{Request}
 use Rattle.tko_pools.specs.Configs.{Configuration, targets_of}
-use Rattle.tko_route.specs.Calls.{Call, Told, came}
+use Rattle.tko_route.specs.Calls.{RoutedCall, Told, came}
 use Rattle.tko_route.specs.Routing.{told_of}
 use Rattle.tko_route.specs.Trail.{form_at, op_of, record_of}
 use Rattle.tko_route.specs.Underway.{Awaited}
@@ -25,22 +25,22 @@ use Rattle.tko_reply.specs.Cuts as cut
 use Rattle.tko_reply.specs.Interactions.{Interaction, Made, Noted, marks_of}
 use Rattle.tko_reply.specs.Standing.{one_of}
 use Rattle.tko_reply.specs.declared.asking.OneKey.{OneKey}
-use Rattle.tko_reply.specs.declared.asking.Share.{Share}
-use Rattle.tko_reply.specs.declared.asking.Share.TheVariants as share
+use Rattle.tko_reply.specs.declared.asking.ReplyPart.{ReplyPart}
+use Rattle.tko_reply.specs.declared.asking.ReplyPart.TheVariants as share
 use Rattle.tko_reply.proofs.AnsweringLemmas.{retrieval_keys}
 use Rattle.tko_keys.specs.declared.plan.Grouping.TheVariants.{ByServer}
 use Rattle.tko_keys.specs.declared.step.KeyStep.{KeyStep}
 use Rattle.tko_keys.specs.declared.step.KeyStep.TheVariants as step
-use Rattle.tko_keys.specs.AtOnce.{AskedKey, IsKeyOver, MayStand, Placed, Shared, SharedSend, came_for, items_of, own_in, own_of, record_in}
+use Rattle.tko_keys.specs.AtOnce.{AskedKey, IsKeyOver, MayStand, PlacedInteraction, Shared, SharedSend, came_for, interactions_of, own_in, own_of, record_in}
 use Rattle.tko_keys.specs.AtOnce as over
 use Rattle.tko_keys.specs.KeysActs.{KeysAct, asked_keys, came_each, came_lost, came_parts, came_with, key_record}
 use Rattle.tko_keys.specs.KeysActs as act
-use Rattle.tko_keys.specs.KeysDriven.{AreUnderWay, FirstLost, FirstTaken, HasArrived, HasSent, HasStopped, IsDueAt, IsSentAt, IsUnsent, NextBegun, NextLost, came_of, due as due_at, others_of, with_loss}
+use Rattle.tko_keys.specs.KeysDriven.{AreUnderWay, FirstLost, FirstTaken, HasArrived, HasSent, HasStopped, IsDueAt, IsSentAt, IsUnsent, NextBegun, NextLost, due as due_at, keys_came_of, others_of, with_loss}
 use Rattle.tko_keys.specs.KeysDriven as driven
 use Rattle.tko_keys.specs.KeysSoFar.{ComesTo, IsKeyCame, IsKeyOut, IsSlotAt, KeysSoFar}
 use Rattle.tko_keys.specs.KeysState.{KeySend, KeySlot, KeysCame, KeysState}
-use Rattle.tko_keys.specs.Lines.{IsSentBy, key_of, outcome_by, outcome_for, part_of}
-use Rattle.tko_keys.specs.SlotCalls.{IsLeft, PartDropped, PartTaken, SlotBegun, SlotTaken, key_step, wait_at}
+use Rattle.tko_keys.specs.Lines.{IsSentBy, key_of, outcome_by, outcome_for, part_for_key}
+use Rattle.tko_keys.specs.SlotCalls.{IsLeftForOthers, PartDropped, PartTaken, SlotBegun, SlotTaken, key_step, wait_at}
 use Rattle.tko_keys.specs.SlotCalls as parted
 use Rattle.tko_keys.proofs.CallLemmas.{arrived_ready, loss_ready, next_lost_step, next_step, sent_ready, stopped_ready, taken_lost_step, taken_step, unsent_ready}
 use Rattle.tko_keys.proofs.PlacedLemmas.{all_alone, asked_none, asked_one, each_alone, items_alone, items_each, may_alone, may_each, own_alone, own_apart, own_each, own_more, own_one}
@@ -50,7 +50,7 @@ use Rattle.tko_keys.proofs.SoFarLemmas.{asked_alone, came_on, pushed_on, set_on}
 use Rattle.tko_keys.proofs.StageLemmas.{alone_course, came_over, ends_noted, ends_over, goes_at, goes_unrecorded, slot_lost}
 
 -- the calls of a key before a send, what came of it, and those after it
-glued : (was before adds last : List Interaction) (front told calls : List Call) (one : Call) → before ≡ map Made front → was ≡ before ++ (Made one ∷ map Made told) → adds ≡ map Made calls ++ last
+glued : (was before adds last : List Interaction) (front told calls : List RoutedCall) (one : RoutedCall) → before ≡ map Made front → was ≡ before ++ (Made one ∷ map Made told) → adds ≡ map Made calls ++ last
     → was ++ adds ≡ map Made (front ++ one ∷ (told ++ calls)) ++ last
 glued was before adds last front told calls one is came_is are =
     ap (λ xs. xs ++ adds) (came_is ∙ ap (λ xs. xs ++ (Made one ∷ map Made told)) is) ∙ append_assoc (map Made front) (Made one ∷ map Made told) adds
@@ -61,24 +61,24 @@ glued was before adds last front told calls one is came_is are =
     ∙ ap (λ xs. xs ++ last) (sym (map-append Made front (one ∷ (told ++ calls))))
 
 -- all calls of a key that something came for
-abbrev all_calls : KeySlot → Awaited → Outcome → Option Reply → List Call → List Call → List Call
+abbrev all_calls : KeySlot → Awaited → Outcome → Option Reply → List RoutedCall → List RoutedCall → List RoutedCall
 all_calls slot waiting part reply before calls = before ++ came waiting.server slot.key.request (Ok part) ∷ (told_of waiting part reply ++ calls)
 
 module _ {config : Configuration} (request : Request) (key : List ℕ) where
   -- a key was begun by its request alone
-  begun_goes : {r : Request} {calls : List Call} {said : KeyStep} (slot : KeySlot) (it : SlotBegun config r calls said slot) → r ≡ request_for request key
+  begun_goes : {r : Request} {calls : List RoutedCall} {said : KeyStep} (slot : KeySlot) (it : SlotBegun config r calls said slot) → r ≡ request_for request key
       → Goes (alone_course config request key slot.targets) calls [] it.at slot.key slot.outbox
   begun_goes {r} {calls} slot it same =
       subst (λ (q : Request). Goes (course_of config slot.targets (one_of q) (without_noreply q)) calls [] it.at slot.key slot.outbox) same it.goes
 
   -- what came of it was recorded
-  taken_goes : {part : Outcome} {more : List Call} {said : KeyStep} {was : List Interaction} {waiting : Awaited} (slot after : KeySlot) (it : SlotTaken config part slot more said after) → it.waiting ≡ waiting
+  taken_goes : {part : Outcome} {more : List RoutedCall} {said : KeyStep} {was : List Interaction} {waiting : Awaited} (slot after : KeySlot) (it : SlotTaken config part slot more said after) → it.waiting ≡ waiting
       → (out : IsKeyOut config request key waiting slot was)
       → Goes (alone_course config request key after.targets) (out.calls ++ came waiting.server slot.key.request (Ok part) ∷ more) [] it.at after.key after.outbox
   taken_goes {part} {more} {waiting = waiting} slot after it same_waiting out =
       let original = without_noreply (request_for request key) in
       let all = out.calls ++ came waiting.server slot.key.request (Ok part) ∷ more in
-      let Course_of : List ℕ → Share → Course = λ ts kind. record { targets = ts; form = form_at config.failover_exptime original; share = kind } in
+      let Course_of : List ℕ → ReplyPart → Course = λ ts kind. record { targets = ts; form = form_at config.failover_exptime original; share = kind } in
       let form : slot.key.request ≡ form_at config.failover_exptime original (length it.waiting.attempts) =
       ap (λ (o : OneKey). o.request) out.alone ∙ ap (λ (w : Awaited). form_at config.failover_exptime original (length w.attempts)) (sym same_waiting) in
       let found = subst (λ (w : Awaited). Rattle.tko_route.specs.Routing.FindsUp (form_at config.failover_exptime original) out.calls w.attempts w.server) (sym same_waiting) out.found in
@@ -122,7 +122,7 @@ lost_so_far {config} {request} {old} {new} {done} s is =
     })
 
 -- memory ran out at a key that is begun
-key_over : {config : Configuration} {request : Request} {key : List ℕ} {calls : List Call} {attempts : List Attempt} {adds : List Interaction} (unique : Bool) → retrieval (key ∷ []) unique ≡ request_for request key → KeyLost config (retrieval (key ∷ []) unique) calls attempts
+key_over : {config : Configuration} {request : Request} {key : List ℕ} {calls : List RoutedCall} {attempts : List Attempt} {adds : List Interaction} (unique : Bool) → retrieval (key ∷ []) unique ≡ request_for request key → KeyLost config (retrieval (key ∷ []) unique) calls attempts
     → adds ≡ map Made calls ++ marks_of attempts → IsKeyOver config request key adds
 key_over unique same (cut.untried none no_attempts) are = over.untried (are ∙ rw (none, no_attempts) refl)
 key_over {config} {request} {key} {calls} {attempts} unique same (cut.tried ends) are =
@@ -130,9 +130,9 @@ key_over {config} {request} {key} {calls} {attempts} unique same (cut.tried ends
     ends_over config request key calls attempts (subst (λ (q : Request). EndsBy (targets_of config key) (form_in config q) calls attempts) same it) refl are
 
 -- the key of a place was dropped
-dropped_over : (config : Configuration) (request : Request) (old : KeysState) {places : List ℕ} {slot after : KeySlot} {left : KeysCame} {calls : List Call} {attempts : List Attempt} {adds was : List Interaction} (key : List ℕ) (waiting : Awaited) → slot.waiting ≡ Some waiting
+dropped_over : (config : Configuration) (request : Request) (old : KeysState) {places : List ℕ} {slot after : KeySlot} {left : KeysCame} {calls : List RoutedCall} {attempts : List Attempt} {adds was : List Interaction} (key : List ℕ) (waiting : Awaited) → slot.waiting ≡ Some waiting
     → PartDropped config (others_of places old.came) slot calls attempts left after → adds ≡ map Made calls ++ Noted attempts ∷ []
-    → IsKeyCame config request key (part_of old.came (key_of slot)) old.came.reply waiting slot was → IsKeyOver config request key (was ++ adds)
+    → IsKeyCame config request key (part_for_key old.came (key_of slot)) old.came.reply waiting slot was → IsKeyOver config request key (was ++ adds)
 dropped_over config request old {slot = slot} {calls = calls} {attempts} {adds} {was} key waiting out (parted.in_call part other is_part out' dropped leaves) are here =
     let same : other ≡ waiting = same_Some other waiting (sym out' ∙ out) in
     let inner : dropped.waiting ≡ waiting = same_Some dropped.waiting waiting (sym dropped.out ∙ out) in
@@ -154,23 +154,23 @@ dropped_over config request old {slot = slot} {calls = calls} {attempts} {adds} 
     let this : other ≡ waiting = same_Some other waiting (sym out' ∙ out) in
     let last : adds ≡ Noted waiting.attempts ∷ [] =
     are ∙ ap (λ cs. map Made cs ++ Noted attempts ∷ []) none ∙ ap (λ xs. Noted xs ∷ []) (tried ∙ ap (λ (w : Awaited). w.attempts) this) in
-    came_over config request key slot waiting (part_of old.came (key_of slot)) old.came.reply was here (ap (λ xs. was ++ xs) last)
+    came_over config request key slot waiting (part_for_key old.came (key_of slot)) old.came.reply was here (ap (λ xs. was ++ xs) last)
 
-waits_at : {config : Configuration} {came : KeysCame} {slot after : KeySlot} {left : KeysCame} {calls : List Call} {attempts : List Attempt} → PartDropped config came slot calls attempts left after
+waits_at : {config : Configuration} {came : KeysCame} {slot after : KeySlot} {left : KeysCame} {calls : List RoutedCall} {attempts : List Attempt} → PartDropped config came slot calls attempts left after
     → (waiting : Awaited) × (slot.waiting ≡ Some waiting)
 waits_at (parted.in_call part waiting is_part out dropped leaves) = (waiting, out)
 waits_at (parted.before waiting out none tried same gone) = (waiting, out)
 
-leaves_at : {config : Configuration} (old : KeysState) {places : List ℕ} {slot after : KeySlot} {left : KeysCame} {calls : List Call} {attempts : List Attempt} → PartDropped config (others_of places old.came) slot calls attempts left after
-    → IsLeft (key_of slot) (others_of places old.came) left × (after.waiting ≡ None)
+leaves_at : {config : Configuration} (old : KeysState) {places : List ℕ} {slot after : KeySlot} {left : KeysCame} {calls : List RoutedCall} {attempts : List Attempt} → PartDropped config (others_of places old.came) slot calls attempts left after
+    → IsLeftForOthers (key_of slot) (others_of places old.came) left × (after.waiting ≡ None)
 leaves_at old (parted.in_call part waiting is_part out dropped leaves) = (leaves, dropped.ended)
 leaves_at old {places} {slot} (parted.before waiting out none tried same gone) = (
-  subst (IsLeft (key_of slot) (others_of places old.came)) (sym same) (record { same = refl; goes_on = λ is. is; others = λ shared other apart. refl }),
+  subst (IsLeftForOthers (key_of slot) (others_of places old.came)) (sym same) (record { same = refl; goes_on = λ is. is; others = λ shared other apart. refl }),
   ap (λ (k : KeySlot). k.waiting) gone,
 )
 
 module _ {config : Configuration} {request : Request} {old new : KeysState} {done : List Interaction} (s : KeysSoFar config request old done) where
-  pub on_began : {calls : List Call} {said : KeyStep} {adds : List Interaction} → NextBegun config old calls said new → adds ≡ map Made calls ++ key_record said
+  pub on_began : {calls : List RoutedCall} {said : KeyStep} {adds : List Interaction} → NextBegun config old calls said new → adds ≡ map Made calls ++ key_record said
       → KeysSoFar config request new (done ++ adds)
   on_began {calls} {said} {adds} it are =
       let begun = it.begun in
@@ -181,7 +181,7 @@ module _ {config : Configuration} {request : Request} {old new : KeysState} {don
       (ap (λ (k : KeysState). k.slots) it.state) (ap (λ (k : KeysState). k.came) it.state) (inl (ap (λ (k : KeysState). k.lost) it.state)) (next_step s.ready it)
       (subst (λ w. IsSlotAt config request it.key new.came false w new.lost it.slot adds) (sym begun.waits) at)
 
-  pub on_began_unrecorded : {calls : List Call} {trail : List Attempt} {mid : KeysState} {adds : List Interaction} → NextBegun config old calls (step.Tried trail) mid → new ≡ with_loss mid
+  pub on_began_unrecorded : {calls : List RoutedCall} {trail : List Attempt} {mid : KeysState} {adds : List Interaction} → NextBegun config old calls (step.Tried trail) mid → new ≡ with_loss mid
       → adds ≡ map Made calls ++ Noted trail ∷ [] → KeysSoFar config request new (done ++ adds)
   on_began_unrecorded {calls} {trail} {mid} {adds} it same are =
       let begun = it.begun in
@@ -194,7 +194,7 @@ module _ {config : Configuration} {request : Request} {old new : KeysState} {don
       (ap (λ (k : KeysState). k.slots) it.state) (ap (λ (k : KeysState). k.came) it.state) (inr refl) (lost_step on)
       (subst (λ w. IsSlotAt config request it.key mid.came false w true it.slot adds) (sym begun.waits) at))
 
-  pub on_begin_lost : {calls : List Call} {attempts : List Attempt} {adds : List Interaction} → NextLost config old calls attempts new → adds ≡ map Made calls ++ marks_of attempts
+  pub on_begin_lost : {calls : List RoutedCall} {attempts : List Attempt} {adds : List Interaction} → NextLost config old calls attempts new → adds ≡ map Made calls ++ marks_of attempts
       → KeysSoFar config request new (done ++ adds)
   on_begin_lost {calls} {attempts} {adds} (driven.unbegun none no_attempts is) are =
       let nothing : adds ≡ [] = are ∙ rw (none, no_attempts) refl in
@@ -208,7 +208,7 @@ module _ {config : Configuration} {request : Request} {old new : KeysState} {don
       pushed_on s key left adds next (ap (λ (k : KeysState). k.left) is) (ap (λ (k : KeysState). k.unique) is)
       (ap (λ (k : KeysState). k.slots) is) (ap (λ (k : KeysState). k.came) is) (inr lost_now) (next_lost_step s.ready left slot may ended is) at
 
-  pub on_took : {calls : List Call} {said : KeyStep} {adds : List Interaction} → (it : FirstTaken config old calls said new)
+  pub on_took : {calls : List RoutedCall} {said : KeyStep} {adds : List Interaction} → (it : FirstTaken config old calls said new)
       → adds ≡ map Made calls ++ key_record said → KeysSoFar config request new (done ++ adds)
   on_took {calls} {said} {adds} it are =
       let part = it.taken in
@@ -227,7 +227,7 @@ module _ {config : Configuration} {request : Request} {old new : KeysState} {don
       (glued was here.before adds (key_record (key_step taken.at)) here.out.calls (told_of part.waiting part.part old.came.reply) calls _ here.out.are
       (here.are ∙ ap (λ xs. here.before ++ xs) comes) last)))
 
-  pub on_took_unrecorded : {calls : List Call} {trail : List Attempt} {mid : KeysState} {adds : List Interaction} → (it : FirstTaken config old calls (step.Tried trail) mid)
+  pub on_took_unrecorded : {calls : List RoutedCall} {trail : List Attempt} {mid : KeysState} {adds : List Interaction} → (it : FirstTaken config old calls (step.Tried trail) mid)
       → new ≡ with_loss mid → adds ≡ map Made calls ++ Noted trail ∷ [] → KeysSoFar config request new (done ++ adds)
   on_took_unrecorded {calls} {trail} {mid} {adds} it gone are =
       let part = it.taken in
@@ -246,7 +246,7 @@ module _ {config : Configuration} {request : Request} {old new : KeysState} {don
       (glued was here.before adds (Noted trail ∷ []) here.out.calls (told_of part.waiting part.part old.came.reply) calls _ here.out.are
       (here.are ∙ ap (λ xs. here.before ++ xs) comes) are))))
 
-  pub on_take_lost : {calls : List Call} {attempts : List Attempt} {adds : List Interaction} → FirstLost config old calls attempts new
+  pub on_take_lost : {calls : List RoutedCall} {attempts : List Attempt} {adds : List Interaction} → FirstLost config old calls attempts new
       → adds ≡ map Made calls ++ Noted attempts ∷ [] → KeysSoFar config request new (done ++ adds)
   on_take_lost {calls} {attempts} {adds} it are =
       let lost_now : new.lost ≡ true = ap (λ (k : KeysState). k.lost) it.state in
@@ -329,10 +329,10 @@ module _ {config : Configuration} {request : Request} {old : KeysState} {done : 
       → adds ≡ map (came_with send.server (λ key. Ok (outcome_by true key outcome))) keys ++ told_to send.server outcome reply → KeysSoFar config request new (done ++ adds)
   shared_on {new} {adds} outcome reply line sends ready together state are =
       let it : SharedSend = record { server = send.server; outcome = outcome; keys = keys; reply = reply } in
-      let more : List Placed = Shared it ∷ [] in
+      let more : List PlacedInteraction = Shared it ∷ [] in
       let came_is : new.came ≡ record { places = send.places; shared = true; outcome = Some outcome; reply = reply } = ap (λ (k : KeysState). k.came) state in
       let f : AskedKey → List Interaction = λ (one : AskedKey). came_for it one ∷ record_in it in
-      subst (λ xs. KeysSoFar config request new (done ++ xs)) (append-nil (items_of (Shared it)) ∙ sym are)
+      subst (λ xs. KeysSoFar config request new (done ++ xs)) (append-nil (interactions_of (Shared it)) ∙ sym are)
       (came_on s more ready (ap (λ (k : KeysState). k.slots) state) (ap (λ (k : KeysState). k.left) state) (ap (λ (k : KeysState). k.unique) state)
       (ap (λ (k : KeysState). k.plan) state) (ap (λ (k : KeysState). k.lost) state) none
       (All-cons (MayStand old.plan.grouping) (Shared it) [] together (All-nil (MayStand old.plan.grouping)))
@@ -341,7 +341,7 @@ module _ {config : Configuration} {request : Request} {old : KeysState} {done : 
       let one : count_at at send.places ≡ 1 = ap (λ (k : KeysCame). count_at at k.places) (sym came_is) ∙ one_it in
       let own : own_of at more ≡ f (record { place = at; request = slot.key.request }) =
       own_one at (Shared it) ∙ asked_one f old.slots at slot there send.places one in
-      subst (λ (k : KeysCame). ComesTo (part_of k (key_of slot)) k.reply waiting slot (own_of at more)) (sym came_is)
+      subst (λ (k : KeysCame). ComesTo (part_for_key k (key_of slot)) k.reply waiting slot (own_of at more)) (sym came_is)
       (own ∙ comes_so waiting send.server outcome (outcome_for (key_of slot) outcome) reply (to_server at slot waiting one there out) (op_same true (key_of slot) outcome))))
 
   -- a key alone
@@ -352,10 +352,10 @@ module _ {config : Configuration} {request : Request} {old : KeysState} {done : 
       let place = single send.places only in
       let f : AskedKey → Interaction = came_with send.server (λ key. Ok (outcome_by false key outcome)) in
       let told : List Interaction = told_to send.server outcome reply in
-      let more : List Placed = each_alone f keys ++ all_alone place.0 told in
+      let more : List PlacedInteraction = each_alone f keys ++ all_alone place.0 told in
       let came_is : new.came ≡ record { places = send.places; shared = false; outcome = Some outcome; reply = reply } = ap (λ (k : KeysState). k.came) state in
-      let items : flat_map items_of more ≡ adds =
-      flat_map-append items_of (each_alone f keys) (all_alone place.0 told) ∙ ap (λ xs. xs ++ flat_map items_of (all_alone place.0 told)) (items_each f keys)
+      let items : flat_map interactions_of more ≡ adds =
+      flat_map-append interactions_of (each_alone f keys) (all_alone place.0 told) ∙ ap (λ xs. xs ++ flat_map interactions_of (all_alone place.0 told)) (items_each f keys)
       ∙ ap (λ xs. map f keys ++ xs) (items_alone place.0 told) ∙ sym are in
       let count_one : (at : ℕ) → count_at at send.places ≡ Rattle.std.proofs.Common.cond (place.0 == at) 1 0 + 0 =
       λ at. ap (count_at at) place.1 ∙ count_cons at place.0 [] in
@@ -381,7 +381,7 @@ module _ {config : Configuration} {request : Request} {old : KeysState} {done : 
             ap (λ xs. f (record { place = at; request = slot.key.request }) ∷ xs) (ap (λ n. own_of n (all_alone place.0 told)) (sym eq.1) ∙ own_alone place.0 told)
         | inr ne ↦ absurd (omega (arith, one, count_one at, ap {B = ℕ} (λ b. Rattle.std.proofs.Common.cond b 1 0) ne.0))
       ] in
-      subst (λ (k : KeysCame). ComesTo (part_of k (key_of slot)) k.reply waiting slot (own_of at more)) (sym came_is)
+      subst (λ (k : KeysCame). ComesTo (part_for_key k (key_of slot)) k.reply waiting slot (own_of at more)) (sym came_is)
       (own ∙ comes_so waiting send.server outcome outcome reply (to_server at slot waiting one there out) refl)))
 
   arrived_by : {new : KeysState} {adds : List Interaction} (outcome : Outcome) (reply : Option Reply) (sends : List KeySend) (line : Option Request) → AreUnderWay config new
@@ -393,11 +393,11 @@ module _ {config : Configuration} {request : Request} {old : KeysState} {done : 
 
   -- memory ran out for them
   lost_by : {new : KeysState} {adds : List Interaction} (was_sent : Bool) (sends : List KeySend) → AreUnderWay config new
-      → new ≡ record old { sends = sends; came = came_of send None None } → adds ≡ came_lost was_sent old.slots send → KeysSoFar config request new (done ++ adds)
+      → new ≡ record old { sends = sends; came = keys_came_of send None None } → adds ≡ came_lost was_sent old.slots send → KeysSoFar config request new (done ++ adds)
   lost_by {new} {adds} was_sent sends ready state are =
       let f : AskedKey → Interaction = came_with send.server (λ key. Err (record { sent = was_sent })) in
-      let more : List Placed = each_alone f keys in
-      let came_is : new.came ≡ came_of send None None = ap (λ (k : KeysState). k.came) state in
+      let more : List PlacedInteraction = each_alone f keys in
+      let came_is : new.came ≡ keys_came_of send None None = ap (λ (k : KeysState). k.came) state in
       subst (λ xs. KeysSoFar config request new (done ++ xs)) (items_each f keys ∙ sym are)
       (came_on s more ready (ap (λ (k : KeysState). k.slots) state) (ap (λ (k : KeysState). k.left) state) (ap (λ (k : KeysState). k.unique) state)
       (ap (λ (k : KeysState). k.plan) state) (ap (λ (k : KeysState). k.lost) state) none (may_each old.plan.grouping f keys)
@@ -407,7 +407,7 @@ module _ {config : Configuration} {request : Request} {old : KeysState} {done : 
       let one : count_at at send.places ≡ 1 = ap (λ (k : KeysCame). count_at at k.places) (sym came_is) ∙ one_it in
       let own : own_of at more ≡ f (record { place = at; request = slot.key.request }) ∷ [] =
       own_each f at keys ∙ asked_one (λ (it : AskedKey). f it ∷ []) old.slots at slot there send.places one in
-      subst (λ (k : KeysCame). ComesTo (part_of k (key_of slot)) k.reply waiting slot (own_of at more)) (sym came_is)
+      subst (λ (k : KeysCame). ComesTo (part_for_key k (key_of slot)) k.reply waiting slot (own_of at more)) (sym came_is)
       (was_sent, own ∙ ap (λ n. Made (came n slot.key.request (Err (record { sent = was_sent }))) ∷ []) (sym (to_server at slot waiting one there out)))))
 
 sent_there : {config : Configuration} {state : KeysState} (before after : List KeySend) (send : KeySend) → AreUnderWay config state → state.sends ≡ before ++ send ∷ after
@@ -418,7 +418,7 @@ sent_there {config} {state} before after send ready are =
     All-head Sent send after parts.1
 
 module _ {config : Configuration} {request : Request} {old new : KeysState} {done : List Interaction} (s : KeysSoFar config request old done) where
-  pub on_arrived : {server : ℕ} {outcome : Outcome} {calls : List Call} {adds : List Interaction} → (it : HasArrived server outcome old calls new)
+  pub on_arrived : {server : ℕ} {outcome : Outcome} {calls : List RoutedCall} {adds : List Interaction} → (it : HasArrived server outcome old calls new)
       → adds ≡ came_parts outcome old.slots it.send ++ map Made calls → KeysSoFar config request new (done ++ adds)
   on_arrived {server} {outcome} {calls} {adds} it are =
       let first = first_found server old.sends it.send it.first in

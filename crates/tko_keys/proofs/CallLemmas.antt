@@ -10,7 +10,7 @@ use Rattle.tko_model.specs.declared.mark.Reply.{Reply}
 use Rattle.tko_text.specs.declared.request.Request.{Request}
 use Rattle.tko_links.specs.declared.links.Outcome.{Outcome}
 use Rattle.tko_pools.specs.Configs.{AreServers, Configuration}
-use Rattle.tko_route.specs.Calls.{Call, came}
+use Rattle.tko_route.specs.Calls.{RoutedCall, came}
 use Rattle.tko_route.specs.Underway.{Awaited}
 use Rattle.tko_route.specs.declared.attempt.Attempt.{Attempt}
 use Rattle.tko_route.specs.declared.routing.Stage.{Stage}
@@ -19,24 +19,24 @@ use Rattle.tko_reply.specs.Asking.{Goes, course_of}
 use Rattle.tko_reply.specs.Sends.{IsSent}
 use Rattle.tko_reply.specs.Standing.{asking, one_of}
 use Rattle.tko_reply.specs.declared.asking.OneKey.{OneKey}
-use Rattle.tko_reply.specs.declared.asking.Share.TheVariants as share
+use Rattle.tko_reply.specs.declared.asking.ReplyPart.TheVariants as share
 use Rattle.tko_reply.proofs.HeldLemmas.{goes_awaits}
 use Rattle.tko_keys.specs.declared.plan.Grouping.{Grouping}
 use Rattle.tko_keys.specs.declared.step.KeyStep.{KeyStep}
 use Rattle.tko_keys.specs.declared.step.KeyStep.TheVariants as step
-use Rattle.tko_keys.specs.KeysDriven.{AreUnderWay, FirstLost, FirstTaken, HasArrived, HasSent, HasStopped, HaveCome, HaveParts, IsDueAt, IsOutAt, IsSentAt, IsUnsent, NextBegun, NextLost, came_of, due as due_at, due_by, failed_with, outs_at, outs_by, outs_in, with_loss}
+use Rattle.tko_keys.specs.KeysDriven.{AreUnderWay, FirstLost, FirstTaken, HasArrived, HasSent, HasStopped, HaveCome, HaveParts, IsDueAt, IsOutAt, IsSentAt, IsUnsent, NextBegun, NextLost, due as due_at, due_by, failed_with, keys_came_of, outs_at, outs_by, outs_in, with_loss}
 use Rattle.tko_keys.specs.KeysDriven as driven
-use Rattle.tko_keys.specs.KeysState.{DueKey, KeySend, KeySlot, KeysCame, KeysState, MayBegin, has_failed, has_values, places_in, places_out, values_ahead}
-use Rattle.tko_keys.specs.Lines.{AreApart, IsLine, IsSentBy, Picks, key_at, key_of}
+use Rattle.tko_keys.specs.KeysState.{DueKey, KeySend, KeySlot, KeysCame, KeysState, MayBegin, has_failed, has_values, key_places_in, places_out, values_ahead}
+use Rattle.tko_keys.specs.Lines.{AreDistinctKeys, IsLineForKeys, IsSentBy, Picks, key_at, key_of}
 use Rattle.tko_keys.specs.Lines as picks
-use Rattle.tko_keys.specs.SlotCalls.{CanGoOn, IsLeft, IsSlotOut, PartDropped, PartTaken, SlotBegun, SlotTaken, key_step, wait_at}
+use Rattle.tko_keys.specs.SlotCalls.{CanGoOn, IsLeftForOthers, IsSlotOut, PartDropped, PartTaken, SlotBegun, SlotTaken, key_step, wait_at}
 use Rattle.tko_keys.specs.SlotCalls as calls
 use Rattle.tko_keys.proofs.PlaceLemmas.{ahead_pushed, ahead_replaced, pushed, replaced, IsChanged}
 use Rattle.tko_keys.proofs.SendLemmas.{first_found}
 use Rattle.tko_keys.proofs.ReadyLemmas.{IsSaid, KeysStep, RestStep, all_split, count_append, count_at, count_cons, count_in, due_places, length_in, none_more, out_no_values, out_not_failed, rest_ready, send_places, step_ready}
 
 -- where a key is due, it is asked for alone, and has no response
-says_of : (config : Configuration) (at : Stage) (slot : KeySlot) (one : OneKey) (original : Request) (calls : List Call) (was : List ℕ)
+says_of : (config : Configuration) (at : Stage) (slot : KeySlot) (one : OneKey) (original : Request) (calls : List RoutedCall) (was : List ℕ)
     → Goes (course_of config slot.targets one original) calls was at slot.key slot.outbox
     → one.share ≡ share.Joined 0 [] → was ≡ [] → AreServers config slot.targets → slot.waiting ≡ wait_at at → IsSaid config slot (key_step at)
 says_of config (stage.Away clear got) slot one original calls was goes apart empty within waits =
@@ -52,12 +52,12 @@ says_of config (stage.Away clear got) slot one original calls was goes apart emp
     )
 says_of config (stage.Done trail) slot one original calls was goes apart empty within waits = waits
 
-pub begun_said : {config : Configuration} {request : Request} {calls : List Call} {said : KeyStep} (slot : KeySlot) → SlotBegun config request calls said slot
+pub begun_said : {config : Configuration} {request : Request} {calls : List RoutedCall} {said : KeyStep} (slot : KeySlot) → SlotBegun config request calls said slot
     → IsSaid config slot said
 begun_said {config} {request} {calls} slot it =
     subst (IsSaid config slot) (sym it.says) (says_of config it.at slot (one_of request) _ calls [] it.goes refl refl it.within it.waits)
 
-pub taken_said : {config : Configuration} {outcome : Outcome} {calls : List Call} {said : KeyStep} (old new : KeySlot) (it : SlotTaken config outcome old calls said new)
+pub taken_said : {config : Configuration} {outcome : Outcome} {calls : List RoutedCall} {said : KeyStep} (old new : KeySlot) (it : SlotTaken config outcome old calls said new)
     → IsSlotOut config old it.waiting → IsSaid config new said
 taken_said {config} {outcome} {calls} old new it was =
     let original = was.sent.original in
@@ -96,7 +96,7 @@ module _ {config : Configuration} {old : KeysState} (ready : AreUnderWay config 
       let here : IsSlotOut config slot out.waiting = subst (λ (k : KeySlot). IsSlotOut config k out.waiting) same out.is in
       subst (IsSlotOut config slot) (same_Some out.waiting waiting (sym here.out ∙ is)) here
 
-  dropped_facts : {places : List ℕ} {slot after : KeySlot} {left : KeysCame} {calls : List Call} {attempts : List Attempt}
+  dropped_facts : {places : List ℕ} {slot after : KeySlot} {left : KeysCame} {calls : List RoutedCall} {attempts : List Attempt}
       → PartDropped config (record old.came { places = places }) slot calls attempts left after
       → (waiting : Awaited) × (slot.waiting ≡ Some waiting) × (left ≡ record old.came { places = places; outcome = left.outcome }) × CanGoOn left × (after.waiting ≡ None)
   dropped_facts (calls.in_call part waiting is_part out dropped leaves) =
@@ -119,7 +119,7 @@ module _ {config : Configuration} {old new : KeysState} (ready : AreUnderWay con
   push_step after said few near slots due sends came plan unique failed says =
       let longer : values_ahead old.slots ≤ values_ahead new.slots =
       subst (λ ss. values_ahead old.slots ≤ values_ahead ss) (sym slots) (ahead_pushed has_values old.slots after) in
-      let same : places_in old.due old.sends new.came ≡ places_out old = ap (places_in old.due old.sends) came in
+      let same : key_places_in old.due old.sends new.came ≡ places_out old = ap (key_places_in old.due old.sends) came in
       record {
         changed = subst (IsChanged old.slots (length old.slots) after) (sym slots) (pushed old.slots after);
         split = λ at. omega (arith, none_more old.slots (length old.slots == at), ap (count_at at) same);
@@ -180,7 +180,7 @@ module _ {config : Configuration} {old new : KeysState} (ready : AreUnderWay con
       }
 
   -- the next key was begun
-  pub next_step : {calls : List Call} {said : KeyStep} (it : NextBegun config old calls said new)
+  pub next_step : {calls : List RoutedCall} {said : KeyStep} (it : NextBegun config old calls said new)
       → KeysStep config old new (length old.slots) it.slot said
   next_step {said = said} it =
       push_step it.slot said it.may.3 it.may.4 (ap (λ (s : KeysState). s.slots) it.state) (ap (λ (s : KeysState). s.due) it.state)
@@ -199,7 +199,7 @@ module _ {config : Configuration} {old new : KeysState} (ready : AreUnderWay con
       (λ is. inl (sym (ap (λ (s : KeysState). s.failed) state) ∙ is)) ended
 
   -- what came for a key was taken
-  pub taken_step : {calls : List Call} {said : KeyStep} (it : FirstTaken config old calls said new)
+  pub taken_step : {calls : List RoutedCall} {said : KeyStep} (it : FirstTaken config old calls said new)
       → KeysStep config old new it.place it.after said
   taken_step {said = said} it =
       let part = it.taken in
@@ -212,7 +212,7 @@ module _ {config : Configuration} {old new : KeysState} (ready : AreUnderWay con
       (taken_said it.slot it.after part.taken was)
 
   -- memory ran out there
-  pub taken_lost_step : {calls : List Call} {attempts : List Attempt} (it : FirstLost config old calls attempts new)
+  pub taken_lost_step : {calls : List RoutedCall} {attempts : List Attempt} (it : FirstLost config old calls attempts new)
       → KeysStep config old new it.place it.after (step.Tried [])
   taken_lost_step it =
       let facts = dropped_facts ready it.lost in
@@ -332,10 +332,10 @@ module _ {config : Configuration} {old new : KeysState} (ready : AreUnderWay con
 
   -- something came of a request under way
   pub came_rest : (before after : List KeySend) (send : KeySend) (outcome : Option Outcome) (reply : Option Reply) → old.sends ≡ before ++ send ∷ after → old.came.places ≡ []
-      → CanGoOn (came_of send outcome reply) → new ≡ record old { sends = before ++ after; came = came_of send outcome reply } → RestStep config old new
+      → CanGoOn (keys_came_of send outcome reply) → new ≡ record old { sends = before ++ after; came = keys_came_of send outcome reply } → RestStep config old new
   came_rest before after send outcome reply are none goes_on state =
       let sends : new.sends ≡ before ++ after = ap (λ (s : KeysState). s.sends) state in
-      let came : new.came ≡ came_of send outcome reply = ap (λ (s : KeysState). s.came) state in
+      let came : new.came ≡ keys_came_of send outcome reply = ap (λ (s : KeysState). s.came) state in
       let due : new.due ≡ old.due = ap (λ (s : KeysState). s.due) state in
       let Sent : KeySend → Type 0 = IsSentAt config old.plan.grouping old.unique old.slots in
       let parts = all_split Sent before (send ∷ after) (subst (All Sent) are ready.sent) in
@@ -389,31 +389,31 @@ module _ {config : Configuration} {old new : KeysState} (ready : AreUnderWay con
             );
       }
 
-  pub arrived_ready : {server : ℕ} {outcome : Outcome} {calls : List Call} → HasArrived server outcome old calls new → AreUnderWay config new
+  pub arrived_ready : {server : ℕ} {outcome : Outcome} {calls : List RoutedCall} → HasArrived server outcome old calls new → AreUnderWay config new
   arrived_ready {server} {outcome} it =
       let first = first_found server old.sends it.send it.first in
       rest_ready ready (came_rest first.before first.after it.send (Some outcome) it.reply first.are it.settled it.replied
-      (it.state ∙ ap (λ ss. record old { sends = ss; came = came_of it.send (Some outcome) it.reply }) first.others))
+      (it.state ∙ ap (λ ss. record old { sends = ss; came = keys_came_of it.send (Some outcome) it.reply }) first.others))
 
   pub stopped_ready : {server : ℕ} → HasStopped server old new → AreUnderWay config new
   stopped_ready {server} it =
       let first = first_found server old.sends it.send it.first in
       rest_ready ready (came_rest first.before first.after it.send None None first.are it.settled tt
-      (it.state ∙ ap (λ ss. record old { sends = ss; came = came_of it.send None None }) first.others))
+      (it.state ∙ ap (λ ss. record old { sends = ss; came = keys_came_of it.send None None }) first.others))
 
   pub unsent_ready : {server : ℕ} → IsUnsent server old new → AreUnderWay config new
   unsent_ready {server} it = rest_ready ready (came_rest it.before it.after it.send None None it.are it.settled tt it.state)
 
 module _ {config : Configuration} {old new : KeysState} (ready : AreUnderWay config old) where
-  pub next_ready : {calls : List Call} {said : KeyStep} → NextBegun config old calls said new → AreUnderWay config new
+  pub next_ready : {calls : List RoutedCall} {said : KeyStep} → NextBegun config old calls said new → AreUnderWay config new
   next_ready it = step_ready ready (next_step ready it)
 
-  pub next_lost_ready : {calls : List Call} {attempts : List Attempt} → NextLost config old calls attempts new → AreUnderWay config new
+  pub next_lost_ready : {calls : List RoutedCall} {attempts : List Attempt} → NextLost config old calls attempts new → AreUnderWay config new
   next_lost_ready (driven.unbegun none no_attempts is) = loss_ready ready is
   next_lost_ready (driven.at_next key left slot may next lost ended is) = step_ready ready (next_lost_step ready left slot may ended is)
 
-  pub taken_ready : {calls : List Call} {said : KeyStep} → FirstTaken config old calls said new → AreUnderWay config new
+  pub taken_ready : {calls : List RoutedCall} {said : KeyStep} → FirstTaken config old calls said new → AreUnderWay config new
   taken_ready it = step_ready ready (taken_step ready it)
 
-  pub taken_lost_ready : {calls : List Call} {attempts : List Attempt} → FirstLost config old calls attempts new → AreUnderWay config new
+  pub taken_lost_ready : {calls : List RoutedCall} {attempts : List Attempt} → FirstLost config old calls attempts new → AreUnderWay config new
   taken_lost_ready it = step_ready ready (taken_lost_step ready it)

@@ -11,7 +11,7 @@ use Rattle.tko_keys.specs.declared.plan.Grouping.TheVariants.{ByKey, ByServer}
 use Rattle.tko_keys.specs.Groups.{GoesWith, HasFilled, HasGathered, IsFirstDue, IsLineOf, others_in}
 use Rattle.tko_keys.specs.KeysDriven.{HasSent}
 use Rattle.tko_keys.specs.KeysState.{DueKey, KeySend, KeySlot, KeysState, LineSoFar, first_due}
-use Rattle.tko_keys.specs.Lines.{IsFull, IsLine, IsSentBy, Picks, key_at}
+use Rattle.tko_keys.specs.Lines.{IsLineForKeys, IsLineFull, IsSentBy, Picks, key_at}
 use Rattle.tko_keys.specs.Lines.Picks.{none_due, goes, stays}
 use Rattle.tko_keys.proofs.SendLemmas.{split_at}
 
@@ -193,8 +193,8 @@ gathered_some {unique} {slots} {server} {place} {due} {stay} {short} {old} {new}
     ap (λ k. k ∷ map (key_at slots) filled.places) is ∙ ap (λ xs. key_at slots place ∷ map (key_at slots) xs) (sym others) in
     record {
       picks = subst (λ xs. Picks server due xs stay) (sym others) filled.picks;
-      line = subst (λ ks. IsLine unique ks new.line) keys filled.group.line;
-      full = λ whole. subst (λ ks. IsFull slots server ks stay) keys (filled.full whole);
+      line = subst (λ ks. IsLineForKeys unique ks new.line) keys filled.group.line;
+      full = λ whole. subst (λ ks. IsLineFull slots server ks stay) keys (filled.full whole);
     }
 
 -- a request was made

@@ -8,7 +8,7 @@ use Rattle.tko_model.specs.declared.mark.Reply.{Reply}
 use Rattle.tko_links.specs.declared.links.Outcome.{Outcome}
 use Rattle.tko_text.specs.declared.request.Request.{Request}
 use Rattle.tko_pools.specs.Configs.{Configuration}
-use Rattle.tko_route.specs.Calls.{Call, Told}
+use Rattle.tko_route.specs.Calls.{RoutedCall, Told}
 use Rattle.tko_route.specs.Trail.{IsRecorded, op_of, record_of}
 use Rattle.tko_route.proofs.RecordedLemmas.{gains_recorded, is_replied}
 use Rattle.tko_route.specs.Routing.{GoesOn}
@@ -20,9 +20,9 @@ use Rattle.tko_keys.specs.FirstKey.{TakesNext}
 use Rattle.tko_keys.specs.declared.step.KeyStep.{KeyStep}
 use Rattle.tko_keys.specs.declared.plan.Grouping.{Grouping}
 use Rattle.tko_keys.specs.Lines.{IsSentBy}
-use Rattle.tko_keys.specs.KeysDriven.{AreUnderWay, FirstLost, FirstTaken, HasArrived, HasStopped, IsLastAt, IsOutAt, IsSentAt, IsUnsent, NextLost, came_of, due_by, failed_with, others_of}
+use Rattle.tko_keys.specs.KeysDriven.{AreUnderWay, FirstLost, FirstTaken, HasArrived, HasStopped, IsLastAt, IsOutAt, IsSentAt, IsUnsent, NextLost, due_by, failed_with, keys_came_of, others_of}
 use Rattle.tko_keys.specs.KeysDriven as driven
-use Rattle.tko_keys.specs.KeysState.{DueKey, HavePlaces, KeySend, KeySlot, KeysCame, KeysState, MayBegin, first_send, has_values, places_in, places_out, reply_at, reply_in, values_ahead, without_first}
+use Rattle.tko_keys.specs.KeysState.{DueKey, HavePlaces, KeySend, KeySlot, KeysCame, KeysState, MayBegin, first_send, has_values, key_places_in, places_out, reply_at, reply_in, values_ahead, without_first}
 use Rattle.tko_keys.specs.Groups.{IsFirstDue}
 use Rattle.tko_keys.specs.SlotCalls as parted
 use Rattle.tko_keys.specs.SlotCalls.{CanGoOn, IsAnyOut, IsSlotOut, PartDropped, PartTaken, SlotBegun}
@@ -142,20 +142,20 @@ module _ {H : Type 0} {steps : H → HealthItem → H → Type 0} {health health
       (subst (λ (s : KeysState). GoesOn steps health (λ calls. FirstLost config s calls attempts New) health') is goes, taken_lost_ready ready goes.is)
 
 -- how many keys are out once one was taken on
-pub out_taken : (due : List DueKey) (sends : List KeySend) (came left : KeysCame) (place : ℕ) (places : List ℕ) (said : KeyStep) (out now : ℕ) → out ≡ length (places_in due sends came)
-    → came.places ≡ place ∷ places → left.places ≡ places → now ≡ (out - 1) + length (due_by place said) → now ≡ length (places_in (due ++ due_by place said) sends left)
+pub out_taken : (due : List DueKey) (sends : List KeySend) (came left : KeysCame) (place : ℕ) (places : List ℕ) (said : KeyStep) (out now : ℕ) → out ≡ length (key_places_in due sends came)
+    → came.places ≡ place ∷ places → left.places ≡ places → now ≡ (out - 1) + length (due_by place said) → now ≡ length (key_places_in (due ++ due_by place said) sends left)
 out_taken due sends came left place places said out now was first rest is =
     omega (arith, was, is, length_in due sends came, length_in (due ++ due_by place said) sends left, length-append due (due_by place said), ap length first, ap length rest)
 
 -- one was, and so room is there for it where it is due again
-pub room_taken : (due : List DueKey) (sends : List KeySend) (came : KeysCame) (place : ℕ) (places : List ℕ) (out room : ℕ) → out ≡ length (places_in due sends came)
+pub room_taken : (due : List DueKey) (sends : List KeySend) (came : KeysCame) (place : ℕ) (places : List ℕ) (out room : ℕ) → out ≡ length (key_places_in due sends came)
     → came.places ≡ place ∷ places → out ≤ room → (length due < room) × (1 ≤ out)
 room_taken due sends came place places out room was first fits =
     (omega (arith, was, length_in due sends came, ap length first, fits), omega (arith, was, length_in due sends came, ap length first))
 
 -- memory ran out for a request
 pub stop_ends : {state old : KeysState} {server : ℕ} {send : KeySend} {sends' : List KeySend} {came' : KeysCame} → state ≡ old → old.came.places ≡ [] → first_send server state.sends ≡ Some send
-    → sends' ≡ without_first server state.sends → came' ≡ came_of send None None
+    → sends' ≡ without_first server state.sends → came' ≡ keys_came_of send None None
     → HasStopped server old (record state { sends = sends'; came = came' })
     × ((config : Configuration) → AreUnderWay config old → AreUnderWay config (record state { sends = sends'; came = came' }))
 stop_ends {state} {old} {server} {send} {sends'} {came'} same none first sends came =
@@ -170,7 +170,7 @@ stop_ends {state} {old} {server} {send} {sends'} {came'} same none first sends c
     (here, λ config ready. stopped_ready ready here)
 
 pub unsent_ends : {state old : KeysState} {server index : ℕ} {send : KeySend} {sends' : List KeySend} {came' : KeysCame} → state ≡ old → old.came.places ≡ [] → IsLastAt server state.sends index
-    → send ≡ slice_index_or state.sends index send → sends' ≡ remove state.sends index → came' ≡ came_of send None None
+    → send ≡ slice_index_or state.sends index send → sends' ≡ remove state.sends index → came' ≡ keys_came_of send None None
     → IsUnsent server old (record state { sends = sends'; came = came' })
     × ((config : Configuration) → AreUnderWay config old → AreUnderWay config (record state { sends = sends'; came = came' }))
 unsent_ends {state} {old} {server} {index} {send} {sends'} {came'} same none last read sends came =
@@ -192,7 +192,7 @@ unsent_ends {state} {old} {server} {index} {send} {sends'} {came'} same none las
 -- what came of a request was recorded
 pub arrive_ends : {H : Type 0} {steps : H → HealthItem → H → Type 0} {health health' : H} {state old : KeysState} {server : ℕ} {send : KeySend} {sends' : List KeySend} {came' : KeysCame} (outcome : Outcome)
     (reply : Option Reply) → state ≡ old → old.came.places ≡ [] → first_send server state.sends ≡ Some send
-    → sends' ≡ without_first server state.sends → came' ≡ came_of send (Some outcome) reply → IsRecorded steps health server (op_of outcome) reply health'
+    → sends' ≡ without_first server state.sends → came' ≡ keys_came_of send (Some outcome) reply → IsRecorded steps health server (op_of outcome) reply health'
     → GoesOn steps health (λ calls. HasArrived server outcome old calls (record state { sends = sends'; came = came' })) health'
     × ((config : Configuration) → AreUnderWay config old → AreUnderWay config (record state { sends = sends'; came = came' }))
 arrive_ends {steps = steps} {health} {health'} {state} {old} {server} {send} {sends'} {came'} outcome reply same none first sends came recorded =
@@ -235,13 +235,13 @@ sent_within servers server {state} config ready same some =
     omega (arith, same, due.server, first.meets, below)
 
 -- the keys that are left of a request, where memory ran out for one
-pub dropped_places : {config : Configuration} {came left : KeysCame} {slot after : KeySlot} {calls : List Call} {attempts : List Attempt} → PartDropped config came slot calls attempts left after
+pub dropped_places : {config : Configuration} {came left : KeysCame} {slot after : KeySlot} {calls : List RoutedCall} {attempts : List Attempt} → PartDropped config came slot calls attempts left after
     → left.places ≡ came.places
 dropped_places (parted.in_call part waiting is_part out dropped leaves) = ap (λ (k : KeysCame). k.places) leaves.same
 dropped_places (parted.before waiting out none tried same gone) = ap (λ (k : KeysCame). k.places) same
 
-pub out_dropped : (due : List DueKey) (sends : List KeySend) (came left : KeysCame) (place : ℕ) (places : List ℕ) (out : ℕ) → out ≡ length (places_in due sends came)
-    → came.places ≡ place ∷ places → left.places ≡ places → out - 1 ≡ length (places_in due sends left)
+pub out_dropped : (due : List DueKey) (sends : List KeySend) (came left : KeysCame) (place : ℕ) (places : List ℕ) (out : ℕ) → out ≡ length (key_places_in due sends came)
+    → came.places ≡ place ∷ places → left.places ≡ places → out - 1 ≡ length (key_places_in due sends left)
 out_dropped due sends came left place places out was first rest =
     omega (arith, was, length_in due sends came, length_in due sends left, ap length first, ap length rest)
 
@@ -258,7 +258,7 @@ due_parts P (one ∷ before) after it all =
     (rest.0, All-cons (λ (d : DueKey). P d.place) one (before ++ after) (All-head P one.place (due_places (before ++ it ∷ after)) all) rest.1)
 
 -- the first key that is due at a server, and the others, were begun
-pub first_due_has : {server : ℕ} {due due' : List DueKey} {it : DueKey} (slots : List KeySlot) (sends : List KeySend) (came : KeysCame) → HavePlaces slots (places_in due sends came) → IsFirstDue server due it due'
+pub first_due_has : {server : ℕ} {due due' : List DueKey} {it : DueKey} (slots : List KeySlot) (sends : List KeySend) (came : KeysCame) → HavePlaces slots (key_places_in due sends came) → IsFirstDue server due it due'
     → (it.place < length slots) × All (λ (d : DueKey). d.place < length slots) due'
 first_due_has {server} {due} {due'} {it} slots sends came have first =
     let P : ℕ → Type 0 = λ place. place < length slots in

@@ -8,7 +8,7 @@ use Rattle.std.proofs.lemmas.Option.{get_or_from_slice_get, slice_get_within}
 use Rattle.tko_pools.specs.Configs.{Configuration}
 use Rattle.tko_keys.specs.declared.step.KeyStep.{KeyStep}
 use Rattle.tko_keys.specs.KeysDriven.{AreUnderWay, IsSentAt, due_by}
-use Rattle.tko_keys.specs.KeysState.{DueKey, HavePlaces, KeySend, KeySlot, KeysCame, KeysState, held_in, places_in, places_out}
+use Rattle.tko_keys.specs.KeysState.{DueKey, HavePlaces, KeySend, KeySlot, KeysCame, KeysState, bytes_held_in, key_places_in, places_out}
 use Rattle.tko_keys.proofs.ReadyLemmas.{all_split, due_places, length_in, send_places}
 
 abbrev Within : List KeySlot → ℕ → Type 0
@@ -44,7 +44,7 @@ module _ (slots : List KeySlot) (due : List DueKey) (sends sends' before after :
   left_places = ap send_places left ∙ flat_map-append (λ (one : KeySend). one.places) before after
 
   -- where something came of a request, its keys are out still
-  pub came_places : HavePlaces slots (places_in due sends came) → HavePlaces slots (places_in due sends' came')
+  pub came_places : HavePlaces slots (key_places_in due sends came) → HavePlaces slots (key_places_in due sends' came')
   came_places have =
       let P = Within slots in
       let parts = all_split P (due_places due) (send_places sends ++ came.places) have in
@@ -55,7 +55,7 @@ module _ (slots : List KeySlot) (due : List DueKey) (sends sends' before after :
       (All-append P (send_places sends') came'.places (subst (All P) (sym left_places) (All-append P (send_places before) (send_places after) all.0 rest.1))
       (subst (All P) (sym now) rest.0))
 
-  pub came_out : length (places_in due sends' came') ≡ length (places_in due sends came)
+  pub came_out : length (key_places_in due sends' came') ≡ length (key_places_in due sends came)
   came_out =
       omega (
         arith,
@@ -72,7 +72,7 @@ module _ (slots : List KeySlot) (due : List DueKey) (sends sends' before after :
 
 -- how many keys are out once one came to this
 pub said_out : (due : List DueKey) (sends : List KeySend) (came : KeysCame) (place : ℕ) (said : KeyStep)
-    → length (places_in (due ++ due_by place said) sends came) ≡ length (places_in due sends came) + length (due_by place said)
+    → length (key_places_in (due ++ due_by place said) sends came) ≡ length (key_places_in due sends came) + length (due_by place said)
 said_out due sends came place said =
     omega (arith, length_in (due ++ due_by place said) sends came, length_in due sends came, length-append due (due_by place said))
 
@@ -80,27 +80,27 @@ held_more : (sum sum' n held now : ℕ) → held ≡ min sum (2 ^ 64 - 1) → su
 held_more sum sum' n held now was more is = omega (arith, was, more, is)
 
 -- a key that had no response came further
-pub held_set : (slots : List KeySlot) (place : ℕ) (was after : KeySlot) (n held now : ℕ) → slice_get slots place ≡ Some was → was.outbox ≡ [] → held ≡ min (held_in slots) (2 ^ 64 - 1)
-    → n ≡ length after.outbox → now ≡ min (held + n) (2 ^ 64 - 1) → now ≡ min (held_in (slice_set slots place after)) (2 ^ 64 - 1)
+pub held_set : (slots : List KeySlot) (place : ℕ) (was after : KeySlot) (n held now : ℕ) → slice_get slots place ≡ Some was → was.outbox ≡ [] → held ≡ min (bytes_held_in slots) (2 ^ 64 - 1)
+    → n ≡ length after.outbox → now ≡ min (held + n) (2 ^ 64 - 1) → now ≡ min (bytes_held_in (slice_set slots place after)) (2 ^ 64 - 1)
 held_set slots place was after n held now at empty kept count is =
     let sums = sum_by-set (λ (slot : KeySlot). length slot.outbox) slots place after was (slice_get_within slots place was at) in
     let none : length (slice_index_or slots place was).outbox ≡ 0 =
     ap (λ (slot : KeySlot). length slot.outbox) (get_or_from_slice_get slots place was was at) ∙ ap length empty in
-    held_more (held_in slots) (held_in (slice_set slots place after)) n held now kept (omega (arith, sums, none, count)) is
+    held_more (bytes_held_in slots) (bytes_held_in (slice_set slots place after)) n held now kept (omega (arith, sums, none, count)) is
 
 -- a key was begun
-pub held_push : (slots slots' : List KeySlot) (after : KeySlot) (n held now : ℕ) → slots' ≡ slots ++ after ∷ [] → held ≡ min (held_in slots) (2 ^ 64 - 1)
-    → n ≡ length after.outbox → now ≡ min (held + n) (2 ^ 64 - 1) → now ≡ min (held_in slots') (2 ^ 64 - 1)
+pub held_push : (slots slots' : List KeySlot) (after : KeySlot) (n held now : ℕ) → slots' ≡ slots ++ after ∷ [] → held ≡ min (bytes_held_in slots) (2 ^ 64 - 1)
+    → n ≡ length after.outbox → now ≡ min (held + n) (2 ^ 64 - 1) → now ≡ min (bytes_held_in slots') (2 ^ 64 - 1)
 held_push slots slots' after n held now more kept count is =
-    held_more (held_in slots) (held_in slots') n held now kept
-    (ap held_in more ∙ sum_by_push (λ (slot : KeySlot). length slot.outbox) slots after ∙ ap (λ k. held_in slots + k) (sym count)) is
+    held_more (bytes_held_in slots) (bytes_held_in slots') n held now kept
+    (ap bytes_held_in more ∙ sum_by_push (λ (slot : KeySlot). length slot.outbox) slots after ∙ ap (λ k. bytes_held_in slots + k) (sym count)) is
 
 -- a key keeps its response
-pub held_same : (slots : List KeySlot) (place : ℕ) (was after : KeySlot) (held : ℕ) → slice_get slots place ≡ Some was → after.outbox ≡ was.outbox → held ≡ min (held_in slots) (2 ^ 64 - 1)
-    → held ≡ min (held_in (slice_set slots place after)) (2 ^ 64 - 1)
+pub held_same : (slots : List KeySlot) (place : ℕ) (was after : KeySlot) (held : ℕ) → slice_get slots place ≡ Some was → after.outbox ≡ was.outbox → held ≡ min (bytes_held_in slots) (2 ^ 64 - 1)
+    → held ≡ min (bytes_held_in (slice_set slots place after)) (2 ^ 64 - 1)
 held_same slots place was after held at same kept =
     let sums = sum_by-set (λ (slot : KeySlot). length slot.outbox) slots place after was (slice_get_within slots place was at) in
     let before : length (slice_index_or slots place was).outbox ≡ length was.outbox =
     ap (λ (slot : KeySlot). length slot.outbox) (get_or_from_slice_get slots place was was at) in
-    let stays : held_in (slice_set slots place after) ≡ held_in slots = omega (arith, sums, before, ap length same) in
+    let stays : bytes_held_in (slice_set slots place after) ≡ bytes_held_in slots = omega (arith, sums, before, ap length same) in
     kept ∙ ap (λ k. min k (2 ^ 64 - 1)) (sym stays)

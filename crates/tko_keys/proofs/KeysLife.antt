@@ -9,10 +9,10 @@ use Rattle.tko_pools.specs.Configs.{Configuration}
 use Rattle.tko_route.specs.Underway.{Awaited}
 use Rattle.tko_reply.specs.Answers.{request_keys}
 use Rattle.tko_reply.specs.Interactions.{Interaction}
-use Rattle.tko_reply.specs.Replies.{IsReply, RoutedKey, end_line, keys_in, written}
+use Rattle.tko_reply.specs.Replies.{IsReply, RoutedKey, end_line, keys_in, reply_written}
 use Rattle.tko_reply.specs.Replies as reply
-use Rattle.tko_reply.specs.declared.asking.Share.{Share}
-use Rattle.tko_reply.specs.declared.asking.Share.TheVariants as share
+use Rattle.tko_reply.specs.declared.asking.ReplyPart.{ReplyPart}
+use Rattle.tko_reply.specs.declared.asking.ReplyPart.TheVariants as share
 use Rattle.tko_reply.proofs.AnsweringLemmas.{retrieval_keys, retrieval_written}
 use Rattle.tko_keys.specs.declared.plan.KeyPlan.{KeyPlan}
 use Rattle.tko_keys.specs.AtOnce.{AnswersAtOnce, ArePlaced, IsCutAtOnce, MayStand, own_of}
@@ -97,7 +97,7 @@ keys_cut config request state done s complete lost = record {
       (s.each place key slot.0 has slot.1));
 }
 
-failed_none : (waiting : Option Awaited) (kind : Share) → failed_by waiting kind ≡ true → listed_by waiting kind ≡ false
+failed_none : (waiting : Option Awaited) (kind : ReplyPart) → failed_by waiting kind ≡ true → listed_by waiting kind ≡ false
 failed_none None (share.Whole silent) failed = refl
 failed_none None (share.Joined begin left) failed = absurd (let none : ⊥ = cc failed in none)
 failed_none (Some waiting) kind failed = refl
@@ -168,7 +168,7 @@ keys_answer config request state done s complete lost =
         reply = reply_in state.slots;
         is_reply = reply_by s.ready complete lost all.routed keys all.all (reply_of all.routed state.slots all.all all.holds);
         is_written =
-            sym (ap (λ (r : Request). written r (reply_in state.slots)) s.whole ∙ retrieval_written (s.begun ++ state.left) state.unique (reply_in state.slots));
+            sym (ap (λ (r : Request). reply_written r (reply_in state.slots)) s.whole ∙ retrieval_written (s.begun ++ state.left) state.unique (reply_in state.slots));
       },
     )
 

@@ -13,9 +13,9 @@ use Rattle.std.proofs.lemmas.List.Sums.{sum_by_push}
 use Rattle.std.proofs.lemmas.Slice.Eq.{bytes_eq-Decides}
 use Rattle.tko_text.specs.Responses.{is_among}
 use Rattle.tko_reply.specs.Answering.{retrieval}
-use Rattle.tko_keys.specs.Groups.{HasFilled, HasJoined, IsGroupFor, IsPassed, IsPut}
+use Rattle.tko_keys.specs.Groups.{HasFilled, HasJoinedLine, IsGroupFor, IsPassedOver, IsPut}
 use Rattle.tko_keys.specs.KeysState.{DueKey, KeySlot, LineSoFar}
-use Rattle.tko_keys.specs.Lines.{AreApart, HasNoRoom, IsFull, Picks, key_at, key_of, line_length}
+use Rattle.tko_keys.specs.Lines.{AreDistinctKeys, HasNoRoom, IsLineFull, Picks, key_at, key_of, line_length}
 use Rattle.tko_keys.specs.Lines.Picks.{none_due, goes, stays}
 
 true_or_false : true ≡ false → ⊥
@@ -26,7 +26,7 @@ neither true b none = absurd (true_or_false none)
 neither false b none = (refl, none)
 
 -- one more key is apart from the others
-pub apart_more : (keys : List (List ℕ)) (key : List ℕ) → AreApart keys → is_among keys key ≡ false → AreApart (keys ++ key ∷ [])
+pub apart_more : (keys : List (List ℕ)) (key : List ℕ) → AreDistinctKeys keys → is_among keys key ≡ false → AreDistinctKeys (keys ++ key ∷ [])
 apart_more [] key apart new = (All-nil (λ other. other ≢ key), tt)
 apart_more (first ∷ keys) key apart new =
     let parts = neither (bytes_eq first key) (is_among keys key) new in
@@ -43,15 +43,15 @@ room_stays keys more key (inl among) =
     inl (list_any-append (λ other. bytes_eq other key) keys (more ∷ []) ∙ ap (λ b. b || list_any (λ other. bytes_eq other key) (more ∷ [])) among)
 room_stays keys more key (inr long) = inr (omega (arith, long, length_more keys more))
 
-full_more : (slots : List KeySlot) (server : ℕ) (keys : List (List ℕ)) (more : List ℕ) (stay : List DueKey) → IsFull slots server keys stay
-    → IsFull slots server (keys ++ more ∷ []) stay
+full_more : (slots : List KeySlot) (server : ℕ) (keys : List (List ℕ)) (more : List ℕ) (stay : List DueKey) → IsLineFull slots server keys stay
+    → IsLineFull slots server (keys ++ more ∷ []) stay
 full_more slots server keys more stay full = λ k d within meets.
     room_stays keys more (key_at slots (slice_index_or stay k d).place) (full k d within meets)
 
 -- a key was put into a line
 pub joined : {unique : Bool} {keys : List (List ℕ)} {place : ℕ} {key : List ℕ} {old new : LineSoFar} → IsGroupFor unique keys old
     → new.others ≡ old.others ++ place ∷ [] → new.line ≡ retrieval (keys ++ key ∷ []) unique → is_among keys key ≡ false
-    → new.bytes ≡ min (old.bytes + (length key + 1)) (2 ^ 64 - 1) → new.bytes ≤ 65536 → HasJoined unique keys place key old new
+    → new.bytes ≡ min (old.bytes + (length key + 1)) (2 ^ 64 - 1) → new.bytes ≤ 65536 → HasJoinedLine unique keys place key old new
 joined {unique} {keys} {place} {key} group others line apart bytes fits = record {
   others = others;
   group = record {
@@ -115,11 +115,11 @@ module _ {unique : Bool} {slots : List KeySlot} {server : ℕ} where
         picks = picks_goes it put.meets filled.picks;
         others = put.joined.others ∙ ap (λ xs. xs ++ it.place ∷ []) filled.others ∙ append_assoc old.others filled.places (it.place ∷ []);
         group = subst (λ ks. IsGroupFor unique ks new) more put.joined.group;
-        full = λ whole. subst (λ ks. IsFull slots server ks stay) more (full_more slots server so_far (key_at slots it.place) stay (filled.full whole));
+        full = λ whole. subst (λ ks. IsLineFull slots server ks stay) more (full_more slots server so_far (key_at slots it.place) stay (filled.full whole));
       }
 
   pub filled_passed : {short : Bool} {keys : List (List ℕ)} {due stay : List DueKey} {old mid new : LineSoFar} (it : DueKey)
-      (filled : HasFilled unique slots server short keys due old stay mid) → IsPassed unique slots server (keys ++ map (key_at slots) filled.places) it mid new
+      (filled : HasFilled unique slots server short keys due old stay mid) → IsPassedOver unique slots server (keys ++ map (key_at slots) filled.places) it mid new
       → HasFilled unique slots server short keys (due ++ it ∷ []) old (stay ++ it ∷ []) new
   filled_passed {short} {keys} {due} {stay} {old} {mid} {new} it filled passed = record {
     places = filled.places;
@@ -169,7 +169,7 @@ module _ {slots : List KeySlot} {server : ℕ} {short : Bool} {stay : List DueKe
       let f = filled unique keys group in
       subst (λ ds. HasFilled unique slots server short keys ds first stay new) (sym taken) (filled_put it f (put unique (keys ++ map (key_at slots) f.places) f.group))
 
-  pub step_passed : ((unique : Bool) (keys : List (List ℕ)) → IsGroupFor unique keys mid → IsPassed unique slots server keys it mid new)
+  pub step_passed : ((unique : Bool) (keys : List (List ℕ)) → IsGroupFor unique keys mid → IsPassedOver unique slots server keys it mid new)
       → FilledFor slots server short (take (index + 1) all) first (stay ++ it ∷ []) new
   step_passed passed = λ unique keys group.
       let f = filled unique keys group in

@@ -5,7 +5,7 @@ use Rattle.std.specs.Option.{option_and_then, option_map}
 use Rattle.std.proofs.lemmas.List.Elements.{All-head, All-tail}
 use Rattle.std.proofs.lemmas.Option.{get_or_from_slice_get, none-some, same_Some, slice_get_read}
 use Rattle.tko_text.specs.declared.request.Request.{Request}
-use Rattle.tko_keys.specs.KeysState.{DueKey, HavePlaces, KeySend, KeySlot, KeysCame, KeysState, asked_first, asked_last, attempts_at, attempts_last, attempts_of, first_send, keys_first, places_in, request_of}
+use Rattle.tko_keys.specs.KeysState.{DueKey, HavePlaces, KeySend, KeySlot, KeysCame, KeysState, asked_first, asked_last, attempts_at, attempts_last, attempts_of, first_send, key_places_in, keys_first, request_of}
 use Rattle.tko_keys.proofs.ReadyLemmas.{all_split, due_places, send_places}
 use Rattle.tko_keys.proofs.SendLemmas.{at_server, first_index}
 
@@ -15,7 +15,7 @@ send_within P (one ∷ sends) zero send at all = subst (λ (k : KeySend). All P 
 send_within P (one ∷ sends) (suc i) send at all = send_within P sends i send at (all_split P one.places (send_places sends) all).1
 
 -- the keys of a request were begun
-pub send_has : (slots : List KeySlot) (due : List DueKey) (sends : List KeySend) (came : KeysCame) (i : ℕ) (send : KeySend) → HavePlaces slots (places_in due sends came) → slice_get sends i ≡ Some send
+pub send_has : (slots : List KeySlot) (due : List DueKey) (sends : List KeySend) (came : KeysCame) (i : ℕ) (send : KeySend) → HavePlaces slots (key_places_in due sends came) → slice_get sends i ≡ Some send
     → HavePlaces slots send.places
 send_has slots due sends came i send have at =
     let P : ℕ → Type 0 = λ place. place < length slots in
@@ -56,7 +56,7 @@ due_within P (one ∷ due) zero it at all = subst (λ (k : DueKey). P k.place) (
 due_within P (one ∷ due) (suc i) it at all = due_within P due i it at (All-tail P one.place (due_places due) all)
 
 -- the key that is due was begun
-pub due_has : (slots : List KeySlot) (due : List DueKey) (sends : List KeySend) (came : KeysCame) (i : ℕ) (it : DueKey) → HavePlaces slots (places_in due sends came) → slice_get due i ≡ Some it
+pub due_has : (slots : List KeySlot) (due : List DueKey) (sends : List KeySend) (came : KeysCame) (i : ℕ) (it : DueKey) → HavePlaces slots (key_places_in due sends came) → slice_get due i ≡ Some it
     → it.place < length slots
 due_has slots due sends came i it have at =
     let P : ℕ → Type 0 = λ place. place < length slots in

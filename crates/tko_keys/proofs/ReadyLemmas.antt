@@ -13,9 +13,9 @@ use Rattle.tko_route.specs.Underway.{Awaited}
 use Rattle.tko_keys.specs.declared.plan.Grouping.{Grouping}
 use Rattle.tko_keys.specs.declared.step.KeyStep.{KeyStep}
 use Rattle.tko_keys.specs.declared.step.KeyStep.TheVariants as step
-use Rattle.tko_keys.specs.KeysDriven.{AreUnderWay, HasFailed, HaveCome, HaveParts, IsDueAt, IsOutAt, IsSentAt, due as due_at, due_by, outs_at, outs_by, outs_in}
-use Rattle.tko_keys.specs.KeysState.{DueKey, KeySend, KeySlot, KeysCame, KeysState, failed_by, has_failed, has_values, listed_by, places_in, places_out, values_ahead}
-use Rattle.tko_keys.specs.Lines.{IsLine, IsSentBy, key_at, key_of}
+use Rattle.tko_keys.specs.KeysDriven.{AreUnderWay, HasKeyFailed, HaveCome, HaveParts, IsDueAt, IsOutAt, IsSentAt, due as due_at, due_by, outs_at, outs_by, outs_in}
+use Rattle.tko_keys.specs.KeysState.{DueKey, KeySend, KeySlot, KeysCame, KeysState, failed_by, has_failed, has_values, key_places_in, listed_by, places_out, values_ahead}
+use Rattle.tko_keys.specs.Lines.{IsLineForKeys, IsSentBy, key_at, key_of}
 use Rattle.tko_keys.specs.SlotCalls.{IsSlotOut}
 use Rattle.tko_keys.proofs.PlaceLemmas.{IsChanged}
 
@@ -61,13 +61,13 @@ abbrev pub send_places : List KeySend → List ℕ
 send_places sends = flat_map (λ (send : KeySend). send.places) sends
 
 pub count_in : (at : ℕ) (due : List DueKey) (sends : List KeySend) (came : KeysCame)
-    → count_at at (places_in due sends came) ≡ count_at at (due_places due) + (count_at at (send_places sends) + count_at at came.places)
+    → count_at at (key_places_in due sends came) ≡ count_at at (due_places due) + (count_at at (send_places sends) + count_at at came.places)
 count_in at due sends came =
     count_append at (due_places due) (send_places sends ++ came.places)
     ∙ ap (λ n. count_at at (due_places due) + n) (count_append at (send_places sends) came.places)
 
 pub length_in : (due : List DueKey) (sends : List KeySend) (came : KeysCame)
-    → length (places_in due sends came) ≡ length due + (length (send_places sends) + length came.places)
+    → length (key_places_in due sends came) ≡ length due + (length (send_places sends) + length came.places)
 length_in due sends came =
     omega (
       arith,
@@ -110,7 +110,7 @@ by_stays : {old new : List KeySlot} {place : ℕ} {now : KeySlot} → IsChanged 
     → count_at place places ≡ 0 → IsSentBy grouping unique old places line → IsSentBy grouping unique new places line
 by_stays changed grouping unique places None none by = by
 by_stays changed grouping unique places (Some line) none by =
-    (by.0, by.1, subst (λ ks. IsLine unique ks line) (sym (keys_same changed places none)) by.2)
+    (by.0, by.1, subst (λ ks. IsLineForKeys unique ks line) (sym (keys_same changed places none)) by.2)
 
 module _ {config : Configuration} {old new : List KeySlot} {place : ℕ} {now : KeySlot} (changed : IsChanged old place now new) where
   due_stays : (it : DueKey) → it.place ≢ place → IsDueAt config old it → IsDueAt config new it
@@ -142,13 +142,13 @@ IsSaid config after (step.Tried trail) = after.waiting ≡ None
 -- One key came further, whose place this is: the others that are due or under way stay so.
 pub record KeysStep (config : Configuration) (old new : KeysState) (place : ℕ) (after : KeySlot) (said : KeyStep) : Type 0 where
   pub changed : IsChanged old.slots place after new.slots
-  pub split : (at : ℕ) → count_at at (places_out old) ≡ count_at at (places_in old.due old.sends new.came) + cond (place == at) (outs_at old.slots place) 0
+  pub split : (at : ℕ) → count_at at (places_out old) ≡ count_at at (key_places_in old.due old.sends new.came) + cond (place == at) (outs_at old.slots place) 0
   pub due : new.due ≡ old.due ++ due_by place said
   pub sends : new.sends ≡ old.sends
   pub came : HaveCome config old.slots new.came
   pub plan : new.plan ≡ old.plan
   pub unique : new.unique ≡ old.unique
-  pub few : length (places_in old.due old.sends new.came) < old.plan.most
+  pub few : length (key_places_in old.due old.sends new.came) < old.plan.most
   pub near : length new.slots ≤ values_ahead new.slots + new.plan.most
   pub failed : new.failed ≡ true → (old.failed ≡ true) ⊎ (has_failed after ≡ true)
   pub free : (slot : KeySlot) → slice_get old.slots place ≡ Some slot → has_failed slot ≡ false
@@ -171,7 +171,7 @@ one_said place (step.Tried trail) = omega arith
 
 module _ {config : Configuration} {old new : KeysState} {place : ℕ} {after : KeySlot} {said : KeyStep} (ready : AreUnderWay config old) (on : KeysStep config old new place after said) where
   abbrev others : List ℕ
-  others = places_in old.due old.sends new.came
+  others = key_places_in old.due old.sends new.came
 
   none_other : count_at place others ≡ 0
   none_other = elim (eqb_tells place place) [
@@ -192,8 +192,8 @@ module _ {config : Configuration} {old new : KeysState} {place : ℕ} {after : K
   pub no_came : count_at place new.came.places ≡ 0
   no_came = omega (arith, none_other, count_in place old.due old.sends new.came)
 
-  out_now : places_out new ≡ places_in (old.due ++ due_by place said) old.sends new.came
-  out_now = ap (λ ds. places_in ds new.sends new.came) on.due ∙ ap (λ ss. places_in (old.due ++ due_by place said) ss new.came) on.sends
+  out_now : places_out new ≡ key_places_in (old.due ++ due_by place said) old.sends new.came
+  out_now = ap (λ ds. key_places_in ds new.sends new.came) on.due ∙ ap (λ ss. key_places_in (old.due ++ due_by place said) ss new.came) on.sends
 
   count_now : (at : ℕ) → count_at at (places_out new) ≡ count_at at others + cond (place == at) (outs_by after.waiting) 0
   count_now at =
@@ -243,7 +243,7 @@ module _ {config : Configuration} {old new : KeysState} {place : ℕ} {after : K
       (subst (λ u. All (IsSentAt config old.plan.grouping u new.slots) new.sends) (sym on.unique)
       (subst (All (IsSentAt config old.plan.grouping old.unique new.slots)) (sym on.sends) stay))
 
-  has_one_failed : new.failed ≡ true → HasFailed new.slots
+  has_one_failed : new.failed ≡ true → HasKeyFailed new.slots
   has_one_failed is = elim (on.failed is) [
     | inl before ↦
         let it = ready.failed before in
@@ -306,5 +306,5 @@ rest_ready {config} {old} {new} ready on = record {
   some = subst (λ p. 0 < p.most) (sym on.plan) ready.some;
   few = omega (arith, on.as_many, ready.few, ap (λ p. p.most) on.plan);
   near = subst (λ ss. length ss ≤ values_ahead ss + new.plan.most) (sym on.slots) (subst (λ p. length old.slots ≤ values_ahead old.slots + p.most) (sym on.plan) ready.near);
-  failed = λ is. subst HasFailed (sym on.slots) (ready.failed (sym on.failed ∙ is));
+  failed = λ is. subst HasKeyFailed (sym on.slots) (ready.failed (sym on.failed ∙ is));
 }

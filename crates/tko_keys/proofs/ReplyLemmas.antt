@@ -10,7 +10,7 @@ use Rattle.tko_reply.specs.Answers.{IsKeyRouted}
 use Rattle.tko_reply.specs.Asking.{Joins}
 use Rattle.tko_reply.specs.Asking as asked
 use Rattle.tko_reply.specs.Interactions.{Interaction}
-use Rattle.tko_reply.specs.Replies.{HasValues, RoutedKey, joined, keys_in, reply_text, routed_key, values_in}
+use Rattle.tko_reply.specs.Replies.{HasValues, RoutedKey, joined_values, keys_in, routed_key, trail_reply_text, values_text_in}
 use Rattle.tko_keys.specs.KeysSoFar.{IsKeyEnded}
 use Rattle.tko_keys.specs.KeysState.{KeySlot, has_values, listed_by, values_ahead}
 
@@ -71,15 +71,15 @@ are_ended {config} {request} (key ∷ keys) (slot ∷ slots) done same ended =
 
 -- all of these keys got lists of values; or one did not, and those before it did
 pub data ReplyAt (routed : List RoutedKey) (slots : List KeySlot) : Type 0 where
-  all_listed : values_ahead slots ≡ length slots → All HasValues routed → flat_map (λ (slot : KeySlot). slot.outbox) slots ≡ joined routed → ReplyAt routed slots
+  all_listed : values_ahead slots ≡ length slots → All HasValues routed → flat_map (λ (slot : KeySlot). slot.outbox) slots ≡ joined_values routed → ReplyAt routed slots
   one_other : (before : List RoutedKey) (last : RoutedKey) (ahead : List RoutedKey) (slot : KeySlot) → routed ≡ before ++ last ∷ ahead
       → length before ≡ values_ahead slots → All HasValues before → ¬ (HasValues last) → slice_get slots (values_ahead slots) ≡ Some slot
-      → slot.outbox ≡ reply_text last.trail → ReplyAt routed slots
+      → slot.outbox ≡ trail_reply_text last.trail → ReplyAt routed slots
 
 one_more : (n : ℕ) → 1 + n ≡ suc n
 one_more n = omega arith
 
-joined_cons : (one : RoutedKey) (routed : List RoutedKey) → joined (one ∷ routed) ≡ unwrap_or (values_in (answer_of one.trail)) [] ++ joined routed
+joined_cons : (one : RoutedKey) (routed : List RoutedKey) → joined_values (one ∷ routed) ≡ unwrap_or (values_text_in (answer_of one.trail)) [] ++ joined_values routed
 joined_cons one routed = refl
 
 reply_cons : (one : RoutedKey) (routed : List RoutedKey) (slot : KeySlot) (slots : List KeySlot) → Holds one slot → ReplyAt routed slots → ReplyAt (one ∷ routed) (slot ∷ slots)
@@ -90,7 +90,7 @@ reply_cons one routed slot slots (over, asked.other none kind text) rest =
 reply_cons one routed slot slots (over, asked.values found kind text) (all_listed many values same) =
     let passes : has_values slot ≡ true = ap (λ w. listed_by w slot.key.share) over ∙ ap (listed_by None) kind in
     let more : values_ahead (slot ∷ slots) ≡ suc (values_ahead slots) = ap (λ b. cond b (1 + values_ahead slots) 0) passes ∙ one_more (values_ahead slots) in
-    all_listed (more ∙ ap suc many) (All-cons HasValues one routed found values) (ap (λ xs. xs ++ flat_map (λ (k : KeySlot). k.outbox) slots) text ∙ ap (λ xs. unwrap_or (values_in (answer_of one.trail)) [] ++ xs) same)
+    all_listed (more ∙ ap suc many) (All-cons HasValues one routed found values) (ap (λ xs. xs ++ flat_map (λ (k : KeySlot). k.outbox) slots) text ∙ ap (λ xs. unwrap_or (values_text_in (answer_of one.trail)) [] ++ xs) same)
 reply_cons one routed slot slots (over, asked.values found kind text) (one_other before last ahead at parts count values other is reply) =
     let passes : has_values slot ≡ true = ap (λ w. listed_by w slot.key.share) over ∙ ap (listed_by None) kind in
     let more : values_ahead (slot ∷ slots) ≡ suc (values_ahead slots) = ap (λ b. cond b (1 + values_ahead slots) 0) passes ∙ one_more (values_ahead slots) in

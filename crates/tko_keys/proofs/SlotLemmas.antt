@@ -7,7 +7,7 @@ use Rattle.tko_model.specs.Records.{HealthItem}
 use Rattle.tko_model.proofs.RecordLemmas.{gains_none}
 use Rattle.tko_links.specs.declared.links.Outcome.{Outcome}
 use Rattle.tko_pools.specs.Configs.{AreServers, Configuration}
-use Rattle.tko_route.specs.Calls.{Call}
+use Rattle.tko_route.specs.Calls.{RoutedCall}
 use Rattle.tko_route.specs.Routing.{GoesOn, told_of}
 use Rattle.tko_route.specs.Trail.{form_at}
 use Rattle.tko_route.specs.Underway.{Awaited}
@@ -22,16 +22,16 @@ use Rattle.tko_reply.specs.Sends.{AfterSend}
 use Rattle.tko_reply.specs.Standing.{asking, one_of}
 use Rattle.tko_reply.specs.declared.asking.OneKey.{OneKey}
 use Rattle.tko_keys.specs.KeysState.{KeySlot, KeysCame}
-use Rattle.tko_keys.specs.Lines.{key_of, part_of}
-use Rattle.tko_keys.specs.SlotCalls.{IsAnyOut, IsLeft, PartDropped, PartTaken, SlotBegun, SlotDropped, SlotTaken, key_step, wait_at}
+use Rattle.tko_keys.specs.Lines.{key_of, part_for_key}
+use Rattle.tko_keys.specs.SlotCalls.{IsAnyOut, IsLeftForOthers, PartDropped, PartTaken, SlotBegun, SlotDropped, SlotTaken, key_step, wait_at}
 use Rattle.tko_keys.specs.SlotCalls as calls
 use Rattle.tko_keys.specs.Steps.{said_by, slot_step}
 use Rattle.tko_keys.specs.declared.step.KeyStep.{KeyStep}
 use Rattle.tko_keys.specs.declared.step.SlotStep.{SlotStep}
 
 -- what is reached so is reached in other words
-pub went_so : {H : Type 0} {steps : H → HealthItem → H → Type 0} {old new : H} {P Q : List Call → Type 0}
-    → GoesOn steps old P new → ((calls : List Call) → P calls → Q calls) → GoesOn steps old Q new
+pub went_so : {H : Type 0} {steps : H → HealthItem → H → Type 0} {old new : H} {P Q : List RoutedCall → Type 0}
+    → GoesOn steps old P new → ((calls : List RoutedCall) → P calls → Q calls) → GoesOn steps old Q new
 went_so on say = record { items = on.items; gains = on.gains; is = say _ on.is }
 
 abbrev slot_of : OneKey → List ℕ → List ℕ → Stage → KeySlot
@@ -101,7 +101,7 @@ module _ {H : Type 0} {steps : H → HealthItem → H → Type 0} {health health
 
   -- a key took its part of what came
   pub part_taken : {old new : KeySlot} {came left : KeysCame} {part : Outcome} {said : KeyStep} {reply : Option Reply} → IsAnyOut config old → reply ≡ came.reply
-      → part_of came (key_of old) ≡ Some part → IsLeft (key_of old) came left
+      → part_for_key came (key_of old) ≡ Some part → IsLeftForOthers (key_of old) came left
       → GoesOn steps health (λ more. (it : Awaited) → old.waiting ≡ Some it → SlotTaken config part old (told_of it part reply ++ more) said new) health'
       → GoesOn steps health (λ calls. PartTaken config came old calls said left new) health'
   part_taken {old} {new} {came} {left} {part} {said} any same is_part leaves on =
@@ -115,7 +115,7 @@ module _ {H : Type 0} {steps : H → HealthItem → H → Type 0} {health health
       })
 
   pub part_dropped : {old new : KeySlot} {came left : KeysCame} {part : Outcome} {attempts : List Attempt} {reply : Option Reply} → IsAnyOut config old → reply ≡ came.reply
-      → part_of came (key_of old) ≡ Some part → IsLeft (key_of old) came left
+      → part_for_key came (key_of old) ≡ Some part → IsLeftForOthers (key_of old) came left
       → GoesOn steps health (λ more. (it : Awaited) → old.waiting ≡ Some it → SlotDropped config part old (told_of it part reply ++ more) attempts new) health'
       → GoesOn steps health (λ calls. PartDropped config came old calls attempts left new) health'
   part_dropped {old} {new} {came} {left} {part} {attempts} any same is_part leaves on =

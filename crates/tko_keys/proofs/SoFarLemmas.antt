@@ -15,12 +15,12 @@ use Rattle.tko_reply.specs.Answers.{request_for}
 use Rattle.tko_reply.specs.Interactions.{Interaction}
 use Rattle.tko_reply.proofs.AnsweringLemmas.{request_for_one}
 use Rattle.tko_keys.specs.declared.step.KeyStep.{KeyStep}
-use Rattle.tko_keys.specs.AtOnce.{ArePlaced, MayStand, Placed, items_of, own_of}
+use Rattle.tko_keys.specs.AtOnce.{ArePlaced, MayStand, PlacedInteraction, interactions_of, own_of}
 use Rattle.tko_keys.specs.KeysDriven.{AreUnderWay, HaveParts, outs_at, outs_by, outs_in}
 use Rattle.tko_keys.specs.KeysSoFar.{ComesTo, IsKeyCame, IsKeyOut, IsSlotAt, IsWaitingAt, KeysSoFar, is_to_take}
 use Rattle.tko_keys.specs.KeysState.{KeySlot, KeysCame, KeysState}
-use Rattle.tko_keys.specs.Lines.{key_at, key_of, part_of}
-use Rattle.tko_keys.specs.SlotCalls.{IsLeft}
+use Rattle.tko_keys.specs.Lines.{key_at, key_of, part_for_key}
+use Rattle.tko_keys.specs.SlotCalls.{IsLeftForOthers}
 use Rattle.tko_keys.proofs.PlaceLemmas.{get_end, get_not_end}
 use Rattle.tko_keys.proofs.PlacedLemmas.{all_alone, own_here, own_more, own_there, placed_adds, placed_more}
 use Rattle.tko_keys.proofs.ReadyLemmas.{KeysStep, count_at, count_cons, count_in, no_came, step_ready}
@@ -113,10 +113,10 @@ same_stays config request slots place old new same = λ at key slot waiting lost
     subst (λ (k : KeysCame). IsSlotAt config request key k (is_to_take at k) waiting lost slot done) (sym same) was
 
 part_stays : (config : Configuration) (request : Request) (key : List ℕ) (old new : KeysCame) (here : Bool) (slot : KeySlot) (waiting : Option Awaited) (lost : Bool) (done : List Interaction)
-    → (here ≡ true → part_of new (key_of slot) ≡ part_of old (key_of slot)) → new.reply ≡ old.reply
+    → (here ≡ true → part_for_key new (key_of slot) ≡ part_for_key old (key_of slot)) → new.reply ≡ old.reply
     → IsSlotAt config request key old here waiting lost slot done → IsSlotAt config request key new here waiting lost slot done
 part_stays config request key old new true slot (Some waiting) lost done part reply is =
-    subst (λ r. IsKeyCame config request key (part_of new (key_of slot)) r waiting slot done) (sym reply)
+    subst (λ r. IsKeyCame config request key (part_for_key new (key_of slot)) r waiting slot done) (sym reply)
     (subst (λ p. IsKeyCame config request key p old.reply waiting slot done) (sym (part refl)) is)
 part_stays config request key old new false slot (Some waiting) lost done part reply is = is
 part_stays config request key old new here slot None false done part reply is = is
@@ -142,8 +142,8 @@ none_short at [] short some = true_or_false (sym some)
 none_short at (place ∷ places) short some = omega (arith, short)
 
 part_left : (shared : Bool) (slots : List KeySlot) (place : ℕ) (places : List ℕ) (slot one : KeySlot) (other : ℕ) (old left : KeysCame) → old.shared ≡ shared → key_at slots place ≡ key_of slot
-    → slice_get slots other ≡ Some one → HaveParts shared (map (key_at slots) (place ∷ places)) → IsLeft (key_of slot) (record old { places = places }) left
-    → list_any (λ (n : ℕ). n == other) places ≡ true → part_of left (key_of one) ≡ part_of old (key_of one)
+    → slice_get slots other ≡ Some one → HaveParts shared (map (key_at slots) (place ∷ places)) → IsLeftForOthers (key_of slot) (record old { places = places }) left
+    → list_any (λ (n : ℕ). n == other) places ≡ true → part_for_key left (key_of one) ≡ part_for_key old (key_of one)
 part_left true slots place places slot one other old left shared same is parts leaves some =
     leaves.others shared (key_of one) (subst (λ k. key_of one ≢ k) same (apart_from (key_at slots place) slots other one is places parts.0 some))
 part_left false slots place places slot one other old left shared same is parts leaves some =
@@ -151,7 +151,7 @@ part_left false slots place places slot one other old left shared same is parts 
 
 -- the others of a request keep their parts
 pub left_stays : (config : Configuration) (request : Request) (slots : List KeySlot) (place : ℕ) (places : List ℕ) (slot : KeySlot) (old left : KeysCame) → old.places ≡ place ∷ places
-    → slice_get slots place ≡ Some slot → HaveParts old.shared (map (key_at slots) old.places) → IsLeft (key_of slot) (record old { places = places }) left
+    → slice_get slots place ≡ Some slot → HaveParts old.shared (map (key_at slots) old.places) → IsLeftForOthers (key_of slot) (record old { places = places }) left
     → CameStays config request slots place old left
 left_stays config request slots place places slot old left first at parts leaves = λ other key one waiting lost done apart is was.
     let now : left.places ≡ places = ap (λ (k : KeysCame). k.places) leaves.same in
@@ -218,10 +218,10 @@ module _ {config : Configuration} {request : Request} {old new : KeysState} {don
 
   -- a key that something came for came further
   pub set_on : {place : ℕ} {after : KeySlot} {said : KeyStep} (places : List ℕ) (slot : KeySlot) (waiting : Awaited) (left : KeysCame) (adds : List Interaction) → old.came.places ≡ place ∷ places
-      → slice_get old.slots place ≡ Some slot → slot.waiting ≡ Some waiting → IsLeft (key_of slot) (record old.came { places = places }) left → new.came ≡ left
+      → slice_get old.slots place ≡ Some slot → slot.waiting ≡ Some waiting → IsLeftForOthers (key_of slot) (record old.came { places = places }) left → new.came ≡ left
       → new.left ≡ old.left → new.unique ≡ old.unique → new.slots ≡ slice_set old.slots place after → LostMore old.lost new.lost
       → KeysStep config old new place after said
-      → ((key : List ℕ) (was : List Interaction) → IsKeyCame config request key (part_of old.came (key_of slot)) old.came.reply waiting slot was
+      → ((key : List ℕ) (was : List Interaction) → IsKeyCame config request key (part_for_key old.came (key_of slot)) old.came.reply waiting slot was
       → IsSlotAt config request key new.came false after.waiting new.lost after (was ++ adds))
       → KeysSoFar config request new (done ++ adds)
   set_on {place} {after} places slot waiting left adds first at out leaves came left' unique slots lost on now =
@@ -247,12 +247,12 @@ zero_or_one n (Some waiting) few = elim (eqb_tells n 0) [
 
 module _ {config : Configuration} {request : Request} {old new : KeysState} {done : List Interaction} (s : KeysSoFar config request old done) where
   -- something came for several keys
-  pub came_on : (more : List Placed) → AreUnderWay config new → new.slots ≡ old.slots → new.left ≡ old.left → new.unique ≡ old.unique → new.plan ≡ old.plan → new.lost ≡ old.lost
+  pub came_on : (more : List PlacedInteraction) → AreUnderWay config new → new.slots ≡ old.slots → new.left ≡ old.left → new.unique ≡ old.unique → new.plan ≡ old.plan → new.lost ≡ old.lost
       → old.came.places ≡ [] → All (MayStand old.plan.grouping) more
       → ((at : ℕ) → count_at at new.came.places ≡ 0 → own_of at more ≡ [])
       → ((at : ℕ) (slot : KeySlot) (waiting : Awaited) → count_at at new.came.places ≡ 1 → slice_get old.slots at ≡ Some slot → slot.waiting ≡ Some waiting
-      → ComesTo (part_of new.came (key_of slot)) new.came.reply waiting slot (own_of at more))
-      → KeysSoFar config request new (done ++ flat_map items_of more)
+      → ComesTo (part_for_key new.came (key_of slot)) new.came.reply waiting slot (own_of at more))
+      → KeysSoFar config request new (done ++ flat_map interactions_of more)
   came_on more ready slots left unique plan lost none may others mine =
       let here_before : (at : ℕ) → is_to_take at old.came ≡ false = λ at. ap (list_any (λ (n : ℕ). n == at)) none in
       record {
@@ -263,7 +263,7 @@ module _ {config : Configuration} {request : Request} {old new : KeysState} {don
         all = s.all ∙ sym (ap length slots);
         placed = s.placed ++ more;
         are_placed =
-            subst (λ p. ArePlaced p.grouping (length new.slots) (s.placed ++ more) (done ++ flat_map items_of more)) (sym plan)
+            subst (λ p. ArePlaced p.grouping (length new.slots) (s.placed ++ more) (done ++ flat_map interactions_of more)) (sym plan)
             (placed_adds more s.are_placed (omega (arith, ap length slots)) (λ at past. others at (none_past at ready past)) may);
         each = λ at key slot has is.
             let before : slice_get old.slots at ≡ Some slot = ap (λ ss. slice_get ss at) (sym slots) ∙ is in
@@ -284,7 +284,7 @@ module _ {config : Configuration} {request : Request} {old new : KeysState} {don
                   let there : is_to_take at new.came ≡ true = any_some at new.came.places one_it.2 in
                   let out : IsKeyOut config request key one_it.0 slot (own_of at s.placed) =
                   subst (λ w. IsSlotAt config request key old.came false w old.lost slot (own_of at s.placed)) one_it.1 was in
-                  let came : IsKeyCame config request key (part_of new.came (key_of slot)) new.came.reply one_it.0 slot (own_of at (s.placed ++ more)) = record {
+                  let came : IsKeyCame config request key (part_for_key new.came (key_of slot)) new.came.reply one_it.0 slot (own_of at (s.placed ++ more)) = record {
                     before = own_of at s.placed;
                     adds = own_of at more;
                     out = out;

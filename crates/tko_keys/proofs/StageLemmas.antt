@@ -5,9 +5,9 @@ use Rattle.tko_text.specs.SentRequests.{without_noreply}
 use Rattle.tko_pools.specs.Configs.{Configuration, targets_of}
 use Rattle.tko_model.specs.declared.mark.Reply.{Reply}
 use Rattle.tko_links.specs.declared.links.Outcome.{Outcome}
-use Rattle.tko_route.specs.Calls.{Call, came}
+use Rattle.tko_route.specs.Calls.{RoutedCall, came}
 use Rattle.tko_route.specs.Routing.{told_of}
-use Rattle.tko_route.specs.Trail.{IsCutTrail, IsTrail, Makes, next_target}
+use Rattle.tko_route.specs.Trail.{IsCutTrail, IsTrail, MakesTrail, next_target}
 use Rattle.tko_route.specs.Underway.{Awaited}
 use Rattle.tko_route.specs.declared.attempt.Attempt.{Attempt}
 use Rattle.tko_route.specs.declared.routing.Stage.{Stage}
@@ -19,7 +19,7 @@ use Rattle.tko_reply.specs.Cuts as cut
 use Rattle.tko_reply.specs.Interactions.{Interaction, Made, Noted, marks_of}
 use Rattle.tko_reply.specs.Replies.{routed_key}
 use Rattle.tko_reply.specs.declared.asking.OneKey.{OneKey}
-use Rattle.tko_reply.specs.declared.asking.Share.TheVariants as share
+use Rattle.tko_reply.specs.declared.asking.ReplyPart.TheVariants as share
 use Rattle.tko_reply.proofs.AnsweringLemmas.{routed_by}
 use Rattle.tko_keys.specs.AtOnce.{IsKeyOver}
 use Rattle.tko_keys.specs.AtOnce as over
@@ -54,7 +54,7 @@ module _ (config : Configuration) (request : Request) (key : List ℕ) where
   ended_at came slot done true is = over.routed is.trail is.routed
 
   -- its calls led to a stage
-  pub goes_at : {done : List Interaction} (came : KeysCame) (at : Stage) (slot : KeySlot) (all : List Call) (lost : Bool)
+  pub goes_at : {done : List Interaction} (came : KeysCame) (at : Stage) (slot : KeySlot) (all : List RoutedCall) (lost : Bool)
       → Goes (alone_course config request key slot.targets) all [] at slot.key slot.outbox → slot.targets ≡ targets_of config key
       → done ≡ map Made all ++ key_record (key_step at) → IsSlotAt config request key came false (wait_at at) lost slot done
   goes_at came (stage.Away clear waiting) slot all lost goes aims are = record {
@@ -76,7 +76,7 @@ module _ (config : Configuration) (request : Request) (key : List ℕ) where
       })
 
   -- and its trail could not be recorded
-  pub goes_unrecorded : {done : List Interaction} (came : KeysCame) (at : Stage) (slot : KeySlot) (all : List Call) (trail : List Attempt)
+  pub goes_unrecorded : {done : List Interaction} (came : KeysCame) (at : Stage) (slot : KeySlot) (all : List RoutedCall) (trail : List Attempt)
       → Goes (alone_course config request key slot.targets) all [] at slot.key slot.outbox → slot.targets ≡ targets_of config key
       → step.Tried trail ≡ key_step at → done ≡ map Made all ++ Noted trail ∷ [] → IsSlotAt config request key came false (wait_at at) true slot done
   goes_unrecorded came (stage.Away clear waiting) slot all trail goes aims says are = absurd (asks_or_tried says)
@@ -84,10 +84,10 @@ module _ (config : Configuration) (request : Request) (key : List ℕ) where
       let same : other ≡ trail = same_trail says in
       over.cut (cut.reply_lost trail all
       (subst (λ t. IsTrail (targets_of config key) t) same (subst (λ ts. IsTrail ts other) aims goes.reached.0))
-      (subst (λ t. Makes (form_in config (request_for request key)) all t) same goes.reached.1) are)
+      (subst (λ t. MakesTrail (form_in config (request_for request key)) all t) same goes.reached.1) are)
 
   -- memory ran out after attempts, whose marks were noted
-  pub ends_over : {done : List Interaction} {targets : List ℕ} (all : List Call) (attempts : List Attempt) → EndsBy targets (form_in config (request_for request key)) all attempts
+  pub ends_over : {done : List Interaction} {targets : List ℕ} (all : List RoutedCall) (attempts : List Attempt) → EndsBy targets (form_in config (request_for request key)) all attempts
       → targets ≡ targets_of config key → done ≡ map Made all ++ marks_of attempts → IsKeyOver config request key done
   ends_over all [] ends aims are =
       over.untried (are ∙ append-nil (map Made all) ∙ ap (map Made) ends.make.adds.leads)
@@ -95,7 +95,7 @@ module _ (config : Configuration) (request : Request) (key : List ℕ) where
       over.cut (cut.reply_lost (one ∷ attempts) all (subst (λ ts. IsTrail ts (one ∷ attempts)) aims ends.tried) ends.make are)
 
   -- memory ran out after attempts, which were noted
-  pub ends_noted : {done : List Interaction} {targets : List ℕ} (all : List Call) (attempts : List Attempt) → EndsBy targets (form_in config (request_for request key)) all attempts
+  pub ends_noted : {done : List Interaction} {targets : List ℕ} (all : List RoutedCall) (attempts : List Attempt) → EndsBy targets (form_in config (request_for request key)) all attempts
       → targets ≡ targets_of config key → done ≡ map Made all ++ Noted attempts ∷ [] → IsKeyOver config request key done
   ends_noted all attempts ends aims are = over.cut (cut.reply_lost attempts all (subst (λ ts. IsTrail ts attempts) aims ends.tried) ends.make are)
 

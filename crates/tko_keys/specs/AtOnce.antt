@@ -7,18 +7,18 @@ use Rattle.tko_model.specs.declared.mark.Reply.{Reply}
 use Rattle.tko_links.specs.declared.links.Outcome.{Outcome}
 use Rattle.tko_text.specs.declared.request.Request.{Request}
 use Rattle.tko_pools.specs.Configs.{Configuration, targets_of}
-use Rattle.tko_route.specs.Calls.{Call, Told, came}
+use Rattle.tko_route.specs.Calls.{RoutedCall, Told, came}
 use Rattle.tko_route.specs.Routing.{FindsUp}
 use Rattle.tko_route.specs.Trail.{IsCutTrail, next_target, op_of, record_of}
 use Rattle.tko_route.specs.declared.attempt.Attempt.{Attempt}
 use Rattle.tko_reply.specs.Answers.{IsKeyRouted, form_in, request_for, request_keys}
 use Rattle.tko_reply.specs.Cuts.{IsKeyCut}
 use Rattle.tko_reply.specs.Interactions.{Interaction, Made, Noted}
-use Rattle.tko_reply.specs.Replies.{IsReply, RoutedKey, routed_key, written}
+use Rattle.tko_reply.specs.Replies.{IsReply, RoutedKey, reply_written, routed_key}
 use Rattle.tko_keys.specs.declared.plan.Grouping.{Grouping}
 use Rattle.tko_keys.specs.declared.plan.Grouping.TheVariants.{ByServer}
 use Rattle.tko_keys.specs.declared.plan.KeyPlan.{KeyPlan}
-use Rattle.tko_keys.specs.Lines.{key_in, outcome_for}
+use Rattle.tko_keys.specs.Lines.{key_in_request, outcome_for}
 
 -- a key of a request that was sent: its place, and its own request, as if it were asked for alone
 pub record AskedKey : Type 0 where
@@ -40,17 +40,17 @@ record_in it = map Made (map Told (record_of it.server (op_of it.outcome) it.rep
 -- what came of it for one of its keys: its part of the response, or else what came
 abbrev pub came_for : SharedSend → AskedKey → Interaction
 came_for it one =
-    Made (came it.server one.request (Ok (outcome_for (key_in one.request) it.outcome)))
+    Made (came it.server one.request (Ok (outcome_for (key_in_request one.request) it.outcome)))
 
 -- what was done for one key; or what came of a request that several keys share
-pub data Placed : Type 0 where
-  Alone : (place : ℕ) (done : Interaction) → Placed
-  Shared : (it : SharedSend) → Placed
+pub data PlacedInteraction : Type 0 where
+  Alone : (place : ℕ) (done : Interaction) → PlacedInteraction
+  Shared : (it : SharedSend) → PlacedInteraction
 
 -- the interactions that it stands for, in order
-abbrev pub items_of : Placed → List Interaction
-items_of (Alone place done) = done ∷ []
-items_of (Shared it) = map (came_for it) it.keys ++ record_in it
+abbrev pub interactions_of : PlacedInteraction → List Interaction
+interactions_of (Alone place done) = done ∷ []
+interactions_of (Shared it) = map (came_for it) it.keys ++ record_in it
 
 -- some interactions, if they are those of a place
 abbrev pub if_here : Bool → List Interaction → List Interaction
@@ -58,23 +58,23 @@ if_here true items = items
 if_here false items = []
 
 -- those of the key of a place
-abbrev pub own_in : ℕ → Placed → List Interaction
+abbrev pub own_in : ℕ → PlacedInteraction → List Interaction
 own_in place (Alone at done) = if_here (at == place) (done ∷ [])
 own_in place (Shared it) =
     flat_map (λ one. if_here (one.place == place) (came_for it one ∷ record_in it)) it.keys
 
-unfoldable pub own_of : ℕ → List Placed → List Interaction
+unfoldable pub own_of : ℕ → List PlacedInteraction → List Interaction
 own_of place placed = flat_map (own_in place) placed
 
 -- keys share requests only where they go out together
-abbrev pub MayStand : Grouping → Placed → Type 0
+abbrev pub MayStand : Grouping → PlacedInteraction → Type 0
 MayStand grouping (Alone place done) = Unit {0}
 MayStand grouping (Shared it) = grouping ≡ ByServer
 
 -- these interactions are those of the first so many keys, each with the place of its key
-pub record ArePlaced (grouping : Grouping) (count : ℕ) (placed : List Placed)
+pub record ArePlaced (grouping : Grouping) (count : ℕ) (placed : List PlacedInteraction)
     (done : List Interaction) : Type 0 where
-  pub are : done ≡ flat_map items_of placed
+  pub are : done ≡ flat_map interactions_of placed
   pub only : (place : ℕ) → count ≤ place → own_of place placed ≡ []
   pub may : All (MayStand grouping) placed
 
@@ -82,20 +82,20 @@ pub record ArePlaced (grouping : Grouping) (count : ℕ) (placed : List Placed)
 pub record AnswersAtOnce (plan : KeyPlan) (config : Configuration) (request : Request)
     (routed : List RoutedKey) (text : List ℕ) (done : List Interaction) : Type 0 where
   pub several : 1 < length (request_keys request)
-  pub placed : List Placed
+  pub placed : List PlacedInteraction
   pub are_placed : ArePlaced plan.grouping (length routed) placed done
   pub each : (place : ℕ) (one : RoutedKey) → slice_get routed place ≡ Some one
       → IsKeyRouted config request one (own_of place placed)
   pub reply : List ℕ
   pub is_reply : IsReply plan.most (request_keys request) routed reply
-  pub is_written : text ≡ written request reply
+  pub is_written : text ≡ reply_written request reply
 
 -- memory ran out for the part that a key has of what came of a request: after attempts at the first
 -- targets, none of them answered, it was sent to the next one, and what came was recorded
 pub record IsPartLost (config : Configuration) (request : Request) (key : List ℕ)
     (done : List Interaction) : Type 0 where
   pub trail : List Attempt
-  pub calls : List Call
+  pub calls : List RoutedCall
   pub server : ℕ
   pub part : Outcome
   pub reply : Option Reply
@@ -123,7 +123,7 @@ pub record IsCutAtOnce (plan : KeyPlan) (config : Configuration) (request : Requ
   pub begun : List (List ℕ)
   pub left : List (List ℕ)
   pub keys : request_keys request ≡ begun ++ left
-  pub placed : List Placed
+  pub placed : List PlacedInteraction
   pub are_placed : ArePlaced plan.grouping (length begun) placed done
   pub each : (place : ℕ) (key : List ℕ) → slice_get begun place ≡ Some key
       → IsKeyOver config request key (own_of place placed)

@@ -4,28 +4,28 @@ use Rattle.std.specs.Option.{option_map}
 use Rattle.tko_keys.specs.KeysState.{DueKey, KeySlot, LineSoFar, first_due}
 use Rattle.tko_keys.specs.declared.plan.Grouping.{Grouping}
 use Rattle.tko_keys.specs.declared.plan.Grouping.TheVariants.{ByServer}
-use Rattle.tko_keys.specs.Lines.{HasNoRoom, IsFull, IsLine, IsSentBy, Picks, key_at, line_length}
+use Rattle.tko_keys.specs.Lines.{HasNoRoom, IsLineForKeys, IsLineFull, IsSentBy, Picks, key_at, line_length}
 
 -- its request is one for these keys, and their bytes were counted
 pub record IsGroupFor (unique : Bool) (keys : List (List ℕ)) (group : LineSoFar) : Type 0 where
-  pub line : IsLine unique keys group.line
+  pub line : IsLineForKeys unique keys group.line
   pub bytes : group.bytes ≡ line_length keys
 
 -- the key of a place was put into a line for these keys
-pub record HasJoined (unique : Bool) (keys : List (List ℕ)) (place : ℕ) (key : List ℕ)
+pub record HasJoinedLine (unique : Bool) (keys : List (List ℕ)) (place : ℕ) (key : List ℕ)
     (old new : LineSoFar) : Type 0 where
   pub others : new.others ≡ old.others ++ place ∷ []
   pub group : IsGroupFor unique (keys ++ key ∷ []) new
 
 -- it had no room there
-pub record HasStayed (keys : List (List ℕ)) (key : List ℕ) (old new : LineSoFar) : Type 0 where
+pub record HasFoundNoRoom (keys : List (List ℕ)) (key : List ℕ) (old new : LineSoFar) : Type 0 where
   pub full : HasNoRoom keys key
   pub same : new ≡ old
 
 -- whether it had room
 abbrev pub Offered : Bool → Bool → List (List ℕ) → ℕ → List ℕ → LineSoFar → LineSoFar → Type 0
-Offered true unique keys place key old new = HasJoined unique keys place key old new
-Offered false unique keys place key old new = HasStayed keys key old new
+Offered true unique keys place key old new = HasJoinedLine unique keys place key old new
+Offered false unique keys place key old new = HasFoundNoRoom keys key old new
 
 -- the first key that is due at a server is taken
 pub record IsFirstDue (server : ℕ) (old : List DueKey) (it : DueKey) (new : List DueKey) : Type 0
@@ -39,19 +39,19 @@ pub record IsFirstDue (server : ℕ) (old : List DueKey) (it : DueKey) (new : Li
 
 module _ (unique : Bool) (slots : List KeySlot) (server : ℕ) where
   -- a key is not due at the server, or had no room in a line for these keys
-  pub record IsPassed (keys : List (List ℕ)) (it : DueKey) (old new : LineSoFar) : Type 0 where
+  pub record IsPassedOver (keys : List (List ℕ)) (it : DueKey) (old new : LineSoFar) : Type 0 where
     pub full : it.server ≡ server → HasNoRoom keys (key_at slots it.place)
     pub same : new ≡ old
 
   -- it is due there, and was put into the line
   pub record IsPut (keys : List (List ℕ)) (it : DueKey) (old new : LineSoFar) : Type 0 where
     pub meets : it.server ≡ server
-    pub joined : HasJoined unique keys it.place (key_at slots it.place) old new
+    pub joined : HasJoinedLine unique keys it.place (key_at slots it.place) old new
 
   -- whether it was put into the line, or nothing, where memory ran out
   abbrev pub PutsAs : Option Bool → List (List ℕ) → DueKey → LineSoFar → LineSoFar → Type 0
   PutsAs (Some true) keys it old new = IsPut keys it old new
-  PutsAs (Some false) keys it old new = IsPassed keys it old new
+  PutsAs (Some false) keys it old new = IsPassedOver keys it old new
   PutsAs None keys it old new = new ≡ old
 
   -- Keys that are due at the server were put into a line for these keys. Unless memory ran out,
@@ -62,7 +62,7 @@ module _ (unique : Bool) (slots : List KeySlot) (server : ℕ) where
     pub picks : Picks server due places stay
     pub others : new.others ≡ old.others ++ places
     pub group : IsGroupFor unique (keys ++ map (key_at slots) places) new
-    pub full : short ≡ false → IsFull slots server (keys ++ map (key_at slots) places) stay
+    pub full : short ≡ false → IsLineFull slots server (keys ++ map (key_at slots) places) stay
 
 -- the places of the keys of a line beside the first
 abbrev pub others_in : Option LineSoFar → List ℕ
@@ -72,7 +72,7 @@ others_in group = unwrap_or (option_map (λ it. it.others) group) []
 abbrev pub IsLineOf : Bool → List KeySlot → ℕ → Option LineSoFar → Type 0
 IsLineOf unique slots place None = Unit {0}
 IsLineOf unique slots place (Some group) =
-    IsLine unique (key_at slots place ∷ map (key_at slots) group.others) group.line
+    IsLineForKeys unique (key_at slots place ∷ map (key_at slots) group.others) group.line
 
 -- keys that are due at the server go with that of a place
 pub record HasGathered (unique : Bool) (slots : List KeySlot) (server place : ℕ)
@@ -80,7 +80,7 @@ pub record HasGathered (unique : Bool) (slots : List KeySlot) (server place : �
   pub picks : Picks server due (others_in group) stay
   pub line : IsLineOf unique slots place group
   pub full : short ≡ false
-      → IsFull slots server (key_at slots place ∷ map (key_at slots) (others_in group)) stay
+      → IsLineFull slots server (key_at slots place ∷ map (key_at slots) (others_in group)) stay
 
 -- what goes out with the key of a place that is due at the server: nothing, or the keys of a line
 pub record GoesWith (grouping : Grouping) (unique : Bool) (slots : List KeySlot) (server place : ℕ)
@@ -89,4 +89,4 @@ pub record GoesWith (grouping : Grouping) (unique : Bool) (slots : List KeySlot)
   pub by : IsSentBy grouping unique slots (place ∷ others_in group)
       (option_map (λ it. it.line) group)
   pub full : short ≡ false → grouping ≡ ByServer
-      → IsFull slots server (key_at slots place ∷ map (key_at slots) (others_in group)) stay
+      → IsLineFull slots server (key_at slots place ∷ map (key_at slots) (others_in group)) stay

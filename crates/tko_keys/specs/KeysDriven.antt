@@ -4,7 +4,7 @@ use Rattle.std.specs.Prelude.{◌≡◌, ◌≤◌, ◌<◌, ◌+◌, ◌==◌, 
 use Rattle.tko_model.specs.declared.mark.Reply.{Reply}
 use Rattle.tko_links.specs.declared.links.Outcome.{Outcome}
 use Rattle.tko_pools.specs.Configs.{Configuration}
-use Rattle.tko_route.specs.Calls.{Call, Told}
+use Rattle.tko_route.specs.Calls.{RoutedCall, Told}
 use Rattle.tko_route.specs.Trail.{op_of, record_of}
 use Rattle.tko_route.specs.Underway.{Awaited}
 use Rattle.tko_route.specs.declared.attempt.Attempt.{Attempt}
@@ -16,7 +16,7 @@ use Rattle.tko_keys.specs.declared.step.KeyStep.{KeyStep}
 use Rattle.tko_keys.specs.declared.step.KeyStep.TheVariants as step
 use Rattle.tko_keys.specs.SlotCalls.{CanGoOn, IsSlotOut, PartDropped, PartTaken, SlotBegun}
 use Rattle.tko_keys.specs.KeysState.{DueKey, KeySend, KeySlot, KeysCame, KeysState, MayBegin, first_send, has_failed, places_out, values_ahead, without_first}
-use Rattle.tko_keys.specs.Lines.{AreApart, IsFull, IsSentBy, Picks, key_at}
+use Rattle.tko_keys.specs.Lines.{AreDistinctKeys, IsLineFull, IsSentBy, Picks, key_at}
 
 abbrev pub due : ℕ → ℕ → DueKey
 due place server = record { place = place; server = server }
@@ -44,8 +44,8 @@ with_next slot left said old = record old {
 }
 
 -- what came of a request is there for its keys
-abbrev pub came_of : KeySend → Option Outcome → Option Reply → KeysCame
-came_of send outcome reply = record {
+abbrev pub keys_came_of : KeySend → Option Outcome → Option Reply → KeysCame
+keys_came_of send outcome reply = record {
   places = send.places;
   shared = is_some send.line;
   outcome = outcome;
@@ -83,7 +83,7 @@ abbrev pub outs_at : List KeySlot → ℕ → ℕ
 outs_at slots place = outs_in (slice_get slots place)
 
 -- a key got no list of values
-pub record HasFailed (slots : List KeySlot) : Type 0 where
+pub record HasKeyFailed (slots : List KeySlot) : Type 0 where
   pub place : ℕ
   pub slot : KeySlot
   pub at : slice_get slots place ≡ Some slot
@@ -91,7 +91,7 @@ pub record HasFailed (slots : List KeySlot) : Type 0 where
 
 -- the keys of one request have their parts of what came of it; without a line it is for one key
 abbrev pub HaveParts : Bool → List (List ℕ) → Type 0
-HaveParts true keys = AreApart keys
+HaveParts true keys = AreDistinctKeys keys
 HaveParts false keys = length keys ≤ 1
 
 module _ (config : Configuration) where
@@ -134,11 +134,11 @@ module _ (config : Configuration) where
     pub some : 0 < state.plan.most
     pub few : length (places_out state) ≤ state.plan.most
     pub near : length state.slots ≤ values_ahead state.slots + state.plan.most
-    pub failed : state.failed ≡ true → HasFailed state.slots
+    pub failed : state.failed ≡ true → HasKeyFailed state.slots
 
   -- the next key was begun
-  pub record NextBegun (old : KeysState) (calls : List Call) (said : KeyStep) (new : KeysState)
-      : Type 0 where
+  pub record NextBegun (old : KeysState) (calls : List RoutedCall) (said : KeyStep)
+      (new : KeysState) : Type 0 where
     pub may : MayBegin old
     pub key : List ℕ
     pub left : List (List ℕ)
@@ -148,7 +148,7 @@ module _ (config : Configuration) where
     pub state : new ≡ with_next slot left said old
 
   -- memory ran out there: before the next key was begun; or at it, after these attempts
-  pub data NextLost (old : KeysState) (calls : List Call) (attempts : List Attempt)
+  pub data NextLost (old : KeysState) (calls : List RoutedCall) (attempts : List Attempt)
       (new : KeysState) : Type 0 where
     unbegun : calls ≡ [] → attempts ≡ [] → new ≡ with_loss old → NextLost old calls attempts new
     at_next : (key : List ℕ) (left : List (List ℕ)) (slot : KeySlot) → MayBegin old
@@ -158,8 +158,8 @@ module _ (config : Configuration) where
         → NextLost old calls attempts new
 
   -- the first key that was not taken on took its part of what came, and goes on
-  pub record FirstTaken (old : KeysState) (calls : List Call) (said : KeyStep) (new : KeysState)
-      : Type 0 where
+  pub record FirstTaken (old : KeysState) (calls : List RoutedCall) (said : KeyStep)
+      (new : KeysState) : Type 0 where
     pub place : ℕ
     pub places : List ℕ
     pub first : old.came.places ≡ place ∷ places
@@ -171,7 +171,7 @@ module _ (config : Configuration) where
     pub state : new ≡ with_taken place after said left old
 
   -- memory ran out there, and the key was dropped after these attempts
-  pub record FirstLost (old : KeysState) (calls : List Call) (attempts : List Attempt)
+  pub record FirstLost (old : KeysState) (calls : List RoutedCall) (attempts : List Attempt)
       (new : KeysState) : Type 0 where
     pub place : ℕ
     pub places : List ℕ
@@ -192,12 +192,12 @@ pub record HasSent (server : ℕ) (short : Bool) (old new : KeysState) : Type 0 
   pub picks : Picks server old.due send.places stay
   pub by : IsSentBy old.plan.grouping old.unique old.slots send.places send.line
   pub full : short ≡ false → old.plan.grouping ≡ ByServer
-      → IsFull old.slots server (map (key_at old.slots) send.places) stay
+      → IsLineFull old.slots server (map (key_at old.slots) send.places) stay
   pub state : new ≡ record old { due = stay; sends = old.sends ++ send ∷ [] }
 
 -- what came of the first request under way at a server was recorded, once, and is there for its
 -- keys
-pub record HasArrived (server : ℕ) (outcome : Outcome) (old : KeysState) (calls : List Call)
+pub record HasArrived (server : ℕ) (outcome : Outcome) (old : KeysState) (calls : List RoutedCall)
     (new : KeysState) : Type 0 where
   pub settled : old.came.places ≡ []
   pub send : KeySend
@@ -207,7 +207,7 @@ pub record HasArrived (server : ℕ) (outcome : Outcome) (old : KeysState) (call
   pub replied : IsSome reply ↔ IsSome (op_of outcome)
   pub state : new ≡ record old {
     sends = without_first server old.sends;
-    came = came_of send (Some outcome) reply;
+    came = keys_came_of send (Some outcome) reply;
   }
 
 -- memory ran out for the first request under way at a server, and its keys are to be dropped
@@ -217,7 +217,7 @@ pub record HasStopped (server : ℕ) (old new : KeysState) : Type 0 where
   pub first : first_send server old.sends ≡ Some send
   pub state : new ≡ record old {
     sends = without_first server old.sends;
-    came = came_of send None None;
+    came = keys_came_of send None None;
   }
 
 -- the same of the last request under way at a server, which was not sent
@@ -229,7 +229,7 @@ pub record IsUnsent (server : ℕ) (old new : KeysState) : Type 0 where
   pub are : old.sends ≡ before ++ send ∷ after
   pub meets : send.server ≡ server
   pub last : first_send server after ≡ None
-  pub state : new ≡ record old { sends = before ++ after; came = came_of send None None }
+  pub state : new ≡ record old { sends = before ++ after; came = keys_came_of send None None }
 
 -- the last request under way at a server has this place among those under way
 pub record IsLastAt (server : ℕ) (sends : List KeySend) (index : ℕ) : Type 0 where

@@ -5,7 +5,7 @@ use Rattle.tko_model.specs.declared.mark.Reply.{Reply}
 use Rattle.tko_links.specs.declared.links.Outcome.{Outcome}
 use Rattle.tko_text.specs.declared.request.Request.{Request}
 use Rattle.tko_pools.specs.Configs.{Configuration, targets_of}
-use Rattle.tko_route.specs.Calls.{Call, came}
+use Rattle.tko_route.specs.Calls.{RoutedCall, came}
 use Rattle.tko_route.specs.Routing.{FindsUp, IsAwaited, told_of}
 use Rattle.tko_route.specs.Trail.{answer_of}
 use Rattle.tko_route.specs.Underway.{Awaited}
@@ -15,16 +15,16 @@ use Rattle.tko_reply.specs.Answers.{IsKeyRouted, form_in, request_for, request_k
 use Rattle.tko_reply.specs.Asking.{Joins}
 use Rattle.tko_reply.specs.Interactions.{Interaction, Made}
 use Rattle.tko_reply.specs.Replies.{routed_key}
-use Rattle.tko_reply.specs.declared.asking.Share.TheVariants as share
-use Rattle.tko_keys.specs.AtOnce.{ArePlaced, IsKeyOver, Placed, own_of}
+use Rattle.tko_reply.specs.declared.asking.ReplyPart.TheVariants as share
+use Rattle.tko_keys.specs.AtOnce.{ArePlaced, IsKeyOver, PlacedInteraction, own_of}
 use Rattle.tko_keys.specs.KeysDriven.{AreUnderWay}
 use Rattle.tko_keys.specs.KeysState.{KeySlot, KeysCame, KeysState}
-use Rattle.tko_keys.specs.Lines.{key_of, part_of}
+use Rattle.tko_keys.specs.Lines.{key_of, part_for_key}
 
 -- a key of a request is asked for alone, and its calls found up the server that it waits for
 pub record IsKeyOut (config : Configuration) (request : Request) (key : List ℕ) (waiting : Awaited)
     (slot : KeySlot) (done : List Interaction) : Type 0 where
-  pub calls : List Call
+  pub calls : List RoutedCall
   pub aims : slot.targets ≡ targets_of config key
   pub awaits : IsAwaited slot.targets waiting
   pub found : FindsUp (form_in config (request_for request key)) calls
@@ -72,7 +72,7 @@ abbrev pub IsWaitingAt : Configuration → Request → List ℕ → KeysCame →
 IsWaitingAt config request key came false waiting slot done =
     IsKeyOut config request key waiting slot done
 IsWaitingAt config request key came true waiting slot done =
-    IsKeyCame config request key (part_of came (key_of slot)) came.reply waiting slot done
+    IsKeyCame config request key (part_for_key came (key_of slot)) came.reply waiting slot done
 
 -- how far a key came, whether it waits or not; once memory ran out, responses are not told any more
 abbrev pub IsSlotAt : Configuration → Request → List ℕ → KeysCame → Bool → Option Awaited → Bool
@@ -92,7 +92,7 @@ pub record KeysSoFar (config : Configuration) (request : Request) (state : KeysS
   pub begun : List (List ℕ)
   pub whole : request ≡ retrieval (begun ++ state.left) state.unique
   pub all : length begun ≡ length state.slots
-  pub placed : List Placed
+  pub placed : List PlacedInteraction
   pub are_placed : ArePlaced state.plan.grouping (length state.slots) placed done
   pub each : (place : ℕ) (key : List ℕ) (slot : KeySlot) → slice_get begun place ≡ Some key
       → slice_get state.slots place ≡ Some slot

@@ -11,7 +11,7 @@ use Rattle.tko_reply.specs.Answering.{retrieval}
 use Rattle.tko_reply.specs.Replies.{end_line}
 use Rattle.tko_reply.specs.Standing.{is_joined}
 use Rattle.tko_reply.specs.declared.asking.OneKey.{OneKey}
-use Rattle.tko_reply.specs.declared.asking.Share.{Share}
+use Rattle.tko_reply.specs.declared.asking.ReplyPart.{ReplyPart}
 use Rattle.tko_keys.specs.declared.plan.KeyPlan.{KeyPlan}
 
 -- a key that was begun: its request, the targets that it is routed over, its response, which is
@@ -88,7 +88,7 @@ pub record IsNew (request : Request) (plan : KeyPlan) (state : KeysState) : Type
   }
 
 -- the attempts at a key have ended, and its response is a list of values
-abbrev pub listed_by : Option Awaited → Share → Bool
+abbrev pub listed_by : Option Awaited → ReplyPart → Bool
 listed_by None kind = is_joined kind
 listed_by (Some waiting) kind = false
 
@@ -96,7 +96,7 @@ abbrev pub has_values : KeySlot → Bool
 has_values slot = listed_by slot.waiting slot.key.share
 
 -- they have ended, and it is none
-abbrev pub failed_by : Option Awaited → Share → Bool
+abbrev pub failed_by : Option Awaited → ReplyPart → Bool
 failed_by None kind = not (is_joined kind)
 failed_by (Some waiting) kind = false
 
@@ -109,12 +109,12 @@ values_ahead slots = prefix_len has_values slots
 
 -- the places of the keys that are due, or of whose request nothing came, or that were not taken on
 -- after that
-abbrev pub places_in : List DueKey → List KeySend → KeysCame → List ℕ
-places_in due sends came =
+abbrev pub key_places_in : List DueKey → List KeySend → KeysCame → List ℕ
+key_places_in due sends came =
     map (λ it. it.place) due ++ (flat_map (λ send. send.places) sends ++ came.places)
 
 abbrev pub places_out : KeysState → List ℕ
-places_out state = places_in state.due state.sends state.came
+places_out state = key_places_in state.due state.sends state.came
 
 -- the servers that requests are under way to, in the order in which they were sent
 abbrev pub awaited : KeysState → List ℕ
@@ -160,8 +160,8 @@ abbrev pub reply_in : List KeySlot → List ℕ
 reply_in slots = reply_at (slice_get slots (values_ahead slots)) slots
 
 -- the bytes of all responses that are kept
-abbrev pub held_in : List KeySlot → ℕ
-held_in slots = sum_by (λ slot. length slot.outbox) slots
+abbrev pub bytes_held_in : List KeySlot → ℕ
+bytes_held_in slots = sum_by (λ slot. length slot.outbox) slots
 
 -- each of these places is that of a key that was begun
 abbrev pub HavePlaces : List KeySlot → List ℕ → Type 0

@@ -12,11 +12,11 @@ use Rattle.tko_keys.specs.declared.plan.Grouping.TheVariants.{ByServer}
 use Rattle.tko_keys.specs.KeysState.{DueKey, KeySlot, KeysCame}
 
 -- the key that a request for one key is for
-abbrev pub key_in : Request → List ℕ
-key_in request = unwrap_or (slice_get (request_keys request) 0) []
+abbrev pub key_in_request : Request → List ℕ
+key_in_request request = unwrap_or (slice_get (request_keys request) 0) []
 
 abbrev pub key_of : KeySlot → List ℕ
-key_of slot = key_in slot.key.request
+key_of slot = key_in_request slot.key.request
 
 -- the key of a place
 abbrev pub key_at : List KeySlot → ℕ → List ℕ
@@ -38,8 +38,8 @@ outcome_by true key came = outcome_for key came
 outcome_by false key came = came
 
 -- what came for a key that is to be taken on, unless memory ran out
-abbrev pub part_of : KeysCame → List ℕ → Option Outcome
-part_of came key = option_map (outcome_by came.shared key) came.outcome
+abbrev pub part_for_key : KeysCame → List ℕ → Option Outcome
+part_for_key came key = option_map (outcome_by came.shared key) came.outcome
 
 -- Some of the keys that are due at a server go out to it: those of these places, in order. The
 -- others stay due, in order.
@@ -62,21 +62,21 @@ abbrev pub line_length : List (List ℕ) → ℕ
 line_length keys = 6 + sum_by (λ key. 1 + length key) keys
 
 -- none of these keys is there twice
-abbrev pub AreApart : List (List ℕ) → Type 0
-AreApart [] = Unit {0}
-AreApart (key ∷ keys) = All (λ other. other ≢ key) keys × AreApart keys
+abbrev pub AreDistinctKeys : List (List ℕ) → Type 0
+AreDistinctKeys [] = Unit {0}
+AreDistinctKeys (key ∷ keys) = All (λ other. other ≢ key) keys × AreDistinctKeys keys
 
 -- one request for the values of these keys
-pub record IsLine (unique : Bool) (keys : List (List ℕ)) (line : Request) : Type 0 where
+pub record IsLineForKeys (unique : Bool) (keys : List (List ℕ)) (line : Request) : Type 0 where
   pub is : line ≡ retrieval keys unique
-  pub apart : AreApart keys
+  pub apart : AreDistinctKeys keys
   pub fits : line_length keys ≤ line_bound
 
 -- a line is for keys of these places, where keys go out together; without one there is one key
 abbrev pub IsSentBy : Grouping → Bool → List KeySlot → List ℕ → Option Request → Type 0
 IsSentBy grouping unique slots places None = length places ≡ 1
 IsSentBy grouping unique slots places (Some line) =
-    (grouping ≡ ByServer) × (places ≢ []) × IsLine unique (map (key_at slots) places) line
+    (grouping ≡ ByServer) × (places ≢ []) × IsLineForKeys unique (map (key_at slots) places) line
 
 -- a key has no room in a line for these keys: it is one of them, or the line would be too long
 abbrev pub HasNoRoom : List (List ℕ) → List ℕ → Type 0
@@ -84,6 +84,6 @@ HasNoRoom keys key =
     (is_among keys key ≡ true) ⊎ (line_bound < line_length keys + (1 + length key))
 
 -- the keys that stay due at a server while a line for these keys goes to it have no room in it
-abbrev pub IsFull : List KeySlot → ℕ → List (List ℕ) → List DueKey → Type 0
-IsFull slots server keys stay =
+abbrev pub IsLineFull : List KeySlot → ℕ → List (List ℕ) → List DueKey → Type 0
+IsLineFull slots server keys stay =
     All (λ it. it.server ≡ server → HasNoRoom keys (key_at slots it.place)) stay

@@ -4,7 +4,7 @@ use Rattle.tko_text.specs.declared.request.Request.{Request}
 use Rattle.tko_text.specs.SentRequests.{without_noreply}
 use Rattle.tko_links.specs.declared.links.Outcome.{Outcome}
 use Rattle.tko_pools.specs.Configs.{AreServers, Configuration}
-use Rattle.tko_route.specs.Calls.{Call}
+use Rattle.tko_route.specs.Calls.{RoutedCall}
 use Rattle.tko_route.specs.Routing.{told_of}
 use Rattle.tko_route.specs.Trail.{form_at, op_of}
 use Rattle.tko_route.specs.Underway.{Awaited}
@@ -15,11 +15,11 @@ use Rattle.tko_reply.specs.Asking.{Goes, GoesTo, course_of}
 use Rattle.tko_reply.specs.Cuts.{EndsBy}
 use Rattle.tko_reply.specs.Sends.{AfterSend, IsSent}
 use Rattle.tko_reply.specs.Standing.{asking, one_of}
-use Rattle.tko_reply.specs.declared.asking.Share.TheVariants as share
+use Rattle.tko_reply.specs.declared.asking.ReplyPart.TheVariants as share
 use Rattle.tko_keys.specs.declared.step.KeyStep.{KeyStep}
 use Rattle.tko_keys.specs.declared.step.KeyStep.TheVariants as step
 use Rattle.tko_keys.specs.KeysState.{KeySlot, KeysCame}
-use Rattle.tko_keys.specs.Lines.{key_of, part_of}
+use Rattle.tko_keys.specs.Lines.{key_of, part_for_key}
 
 -- what a call says where a key came so far
 abbrev pub key_step : Stage → KeyStep
@@ -41,11 +41,11 @@ abbrev pub CanGoOn : KeysCame → Type 0
 CanGoOn came = IfSome came.outcome (λ outcome. IsSome came.reply ↔ IsSome (op_of outcome))
 
 -- what is left of what came, once the key took its part of it: the parts of all other keys
-pub record IsLeft (key : List ℕ) (old new : KeysCame) : Type 0 where
+pub record IsLeftForOthers (key : List ℕ) (old new : KeysCame) : Type 0 where
   pub same : new ≡ record old { outcome = new.outcome }
   pub goes_on : CanGoOn old → CanGoOn new
   pub others : old.shared ≡ true → (other : List ℕ) → other ≢ key
-      → part_of new other ≡ part_of old other
+      → part_for_key new other ≡ part_for_key old other
 
 module _ (config : Configuration) where
   -- it is due at one of its targets, which are servers, or its request is under way there, and it
@@ -61,8 +61,8 @@ module _ (config : Configuration) where
     pub is : IsSlotOut slot waiting
 
   -- it was asked for over its targets, which are servers
-  pub record SlotBegun (request : Request) (calls : List Call) (said : KeyStep) (slot : KeySlot)
-      : Type 0 where
+  pub record SlotBegun (request : Request) (calls : List RoutedCall) (said : KeyStep)
+      (slot : KeySlot) : Type 0 where
     pub at : Stage
     pub goes : Goes (course_of config slot.targets (one_of request) (without_noreply request))
         calls [] at slot.key slot.outbox
@@ -72,8 +72,8 @@ module _ (config : Configuration) where
     pub says : said ≡ key_step at
 
   -- what came of its send was recorded
-  pub record SlotTaken (outcome : Outcome) (old : KeySlot) (calls : List Call) (said : KeyStep)
-      (new : KeySlot) : Type 0 where
+  pub record SlotTaken (outcome : Outcome) (old : KeySlot) (calls : List RoutedCall)
+      (said : KeyStep) (new : KeySlot) : Type 0 where
     pub waiting : Awaited
     pub out : old.waiting ≡ Some waiting
     pub at : Stage
@@ -85,7 +85,7 @@ module _ (config : Configuration) where
     pub says : said ≡ key_step at
 
   -- memory ran out there, after these attempts
-  pub record SlotDropped (outcome : Outcome) (old : KeySlot) (calls : List Call)
+  pub record SlotDropped (outcome : Outcome) (old : KeySlot) (calls : List RoutedCall)
       (attempts : List Attempt) (new : KeySlot) : Type 0 where
     pub waiting : Awaited
     pub out : old.waiting ≡ Some waiting
@@ -95,22 +95,22 @@ module _ (config : Configuration) where
 
   -- A key took its part of what came, which goes on so with what is left of that. The keys that
   -- share it keep their parts.
-  pub record PartTaken (came : KeysCame) (old : KeySlot) (calls : List Call) (said : KeyStep)
+  pub record PartTaken (came : KeysCame) (old : KeySlot) (calls : List RoutedCall) (said : KeyStep)
       (left : KeysCame) (new : KeySlot) : Type 0 where
     pub part : Outcome
-    pub is_part : part_of came (key_of old) ≡ Some part
+    pub is_part : part_for_key came (key_of old) ≡ Some part
     pub waiting : Awaited
     pub out : old.waiting ≡ Some waiting
     pub taken : SlotTaken part old (told_of waiting part came.reply ++ calls) said new
-    pub leaves : IsLeft (key_of old) came left
+    pub leaves : IsLeftForOthers (key_of old) came left
 
   -- memory ran out there, after these attempts; or it ran out for the part, or before
-  pub data PartDropped (came : KeysCame) (old : KeySlot) (calls : List Call)
+  pub data PartDropped (came : KeysCame) (old : KeySlot) (calls : List RoutedCall)
       (attempts : List Attempt) (left : KeysCame) (new : KeySlot) : Type 0 where
-    in_call : (part : Outcome) (waiting : Awaited) → part_of came (key_of old) ≡ Some part
+    in_call : (part : Outcome) (waiting : Awaited) → part_for_key came (key_of old) ≡ Some part
         → old.waiting ≡ Some waiting
         → SlotDropped part old (told_of waiting part came.reply ++ calls) attempts new
-        → IsLeft (key_of old) came left → PartDropped came old calls attempts left new
+        → IsLeftForOthers (key_of old) came left → PartDropped came old calls attempts left new
     before : (waiting : Awaited) → old.waiting ≡ Some waiting → calls ≡ []
         → attempts ≡ waiting.attempts → left ≡ came → new ≡ record old { waiting = None }
         → PartDropped came old calls attempts left new

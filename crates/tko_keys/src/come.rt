@@ -1,10 +1,10 @@
 //! What came of a request, for its keys.
 ghost use Rattle.std.specs.Prelude.{◌≡◌, ◌≢◌, ◌∷◌, ◌↔◌, ℕ, [], true, IfNone, IfSome, IsTrue, List, MatchOption, Some};
 ghost use Rattle.tko_route.specs.Trail.{op_of};
-ghost use Rattle.tko_keys.specs.KeysDriven.{came_of};
+ghost use Rattle.tko_keys.specs.KeysDriven.{keys_came_of};
 ghost use Rattle.tko_keys.specs.KeysState.{nothing_came};
-ghost use Rattle.tko_keys.specs.Lines.{key_in, outcome_for, part_of};
-ghost use Rattle.tko_keys.specs.SlotCalls.{IsLeft};
+ghost use Rattle.tko_keys.specs.Lines.{key_in_request, outcome_for, part_for_key};
+ghost use Rattle.tko_keys.specs.SlotCalls.{IsLeftForOthers};
 
 use crate::line::key_of;
 use crate::under_way::UnderWay;
@@ -65,7 +65,7 @@ impl Come {
         outcome: Option<Outcome>,
         reply: Option<Reply>,
     ) -> Come
-        ensures { result ≡ came_of send outcome reply }
+        ensures { result ≡ keys_came_of send outcome reply }
     {
         let first = Some(send.first);
         match send.group {
@@ -114,8 +114,10 @@ impl Come {
 
     /// Takes the part of a key, which is asked for by a request of its own, unless memory ran out.
     pub(crate) fn part(&mut self, alloc: Global, request: &Request) -> Option<Outcome>
-        ensures value { IfSome result (λ part. part_of self.old (key_in request.now) ≡ Some part) }
-        ensures left { IfSome result (λ part. IsLeft (key_in request.now) self.old self.new) }
+        ensures value { IfSome result (λ part.
+            part_for_key self.old (key_in_request request.now) ≡ Some part) }
+        ensures left { IfSome result (λ part.
+            IsLeftForOthers (key_in_request request.now) self.old self.new) }
         ensures none { IfNone result (self.new ≡ self.old) }
     {
         if !self.shared {

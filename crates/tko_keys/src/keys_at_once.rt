@@ -2,7 +2,7 @@
 ghost use Rattle.std.specs.Prelude.{◌≡◌, ◌≢◌, ◌<◌, ◌↔◌, ◌-◌, ◌^◌, min, [], IfOk, IsTrue, length};
 ghost use Rattle.tko_reply.specs.Answers.{request_keys};
 ghost use Rattle.tko_keys.specs.KeysDriven.{with_loss};
-ghost use Rattle.tko_keys.specs.KeysState.{IsComplete, IsNew, MayBegin, awaited, held_in};
+ghost use Rattle.tko_keys.specs.KeysState.{IsComplete, IsNew, MayBegin, awaited, bytes_held_in};
 
 use crate::come::Come;
 use crate::due::Due;
@@ -62,7 +62,7 @@ impl Model for KeysAtOnce {
     ghost use Rattle.std.specs.Prelude.{◌≡◌, ◌≤◌, ◌-◌, ◌^◌, length, min};
     ghost use Rattle.std.specs.VecDeque.{deque_capacity};
     ghost use Rattle.tko_keys.specs.FirstKey.{IsAlone, keys_with};
-    ghost use Rattle.tko_keys.specs.KeysState.{HavePlaces, KeysState, held_in, places_in, values_ahead};
+    ghost use Rattle.tko_keys.specs.KeysState.{HavePlaces, KeysState, bytes_held_in, key_places_in, values_ahead};
 
     ghost Value = { KeysState };
 
@@ -79,9 +79,9 @@ impl Model for KeysAtOnce {
     } };
 
     ghost invariant = { λ k. IsAlone k.unique k.first × (k.ahead ≡ values_ahead k.slots.items)
-        × HavePlaces k.slots.items (places_in k.due.items k.sends.items k.came)
-        × (k.held ≡ min (held_in k.slots.items) (2 ^ 64 - 1))
-        × (k.out ≡ length (places_in k.due.items k.sends.items k.came))
+        × HavePlaces k.slots.items (key_places_in k.due.items k.sends.items k.came)
+        × (k.held ≡ min (bytes_held_in k.slots.items) (2 ^ 64 - 1))
+        × (k.out ≡ length (key_places_in k.due.items k.sends.items k.came))
         × (k.out ≤ deque_capacity k.due) × (k.out ≤ deque_capacity k.sends) };
 }
 
@@ -169,7 +169,7 @@ impl KeysAtOnce {
 
     /// How many bytes of responses are kept.
     pub fn held(&self) -> usize
-        ensures { result ≡ min (held_in self.now.slots) (2 ^ 64 - 1) }
+        ensures { result ≡ min (bytes_held_in self.now.slots) (2 ^ 64 - 1) }
     {
         self.held
     }

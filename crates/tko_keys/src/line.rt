@@ -3,7 +3,7 @@ ghost use Rattle.std.specs.Prelude.{◌≡◌, ◌++◌, ◌∷◌, ℕ, Bool, [
 ghost use Rattle.tko_text.specs.Responses.{is_among};
 ghost use Rattle.tko_reply.specs.Answering.{retrieval};
 ghost use Rattle.tko_keys.specs.Groups.{IsGroupFor, Offered};
-ghost use Rattle.tko_keys.specs.Lines.{key_in};
+ghost use Rattle.tko_keys.specs.Lines.{key_in_request};
 
 use crate::under_way::Group;
 use std::alloc::Global;
@@ -17,7 +17,8 @@ const LINE_BOUND: usize = 65_536;
 const FRAME: usize = 6;
 
 impl Group {
-    /// A line for one key so far, which is asked for by a request of its own, with room for so many.
+    /// A line for one key so far, which is asked for by a request of its own, with room for so
+    /// many.
     pub(crate) fn of(
         alloc: Global,
         unique: bool,
@@ -25,7 +26,8 @@ impl Group {
         request: &Request,
     ) -> Result<Group, NoMemory>
         ensures others { IfOk result (λ group. group.others ≡ []) }
-        ensures group { IfOk result (λ group. IsGroupFor unique (key_in request.now ∷ []) group) }
+        ensures group { IfOk result (λ group.
+            IsGroupFor unique (key_in_request request.now ∷ []) group) }
     {
         let Some(key) = key_of(request) else {
             return Err(NoMemory);
@@ -49,7 +51,7 @@ impl Group {
     ) -> Result<bool, NoMemory>
         ensures ok { IfOk result (λ took. (unique : Bool) (keys : List (List ℕ))
             → IsGroupFor unique keys self.old
-            → Offered took unique keys place (key_in request.now) self.old self.new) }
+            → Offered took unique keys place (key_in_request request.now) self.old self.new) }
         ensures err { OnErr result (self.new ≡ self.old) }
     {
         let Some(key) = key_of(request) else {
@@ -70,7 +72,7 @@ impl Group {
 
 /// The key that a request for the values of one is for.
 pub(crate) fn key_of(request: &Request) -> Option<&Key>
-    ensures { IfSome result (λ key. key.now ≡ key_in request.now) }
+    ensures { IfSome result (λ key. key.now ≡ key_in_request request.now) }
 {
     match request {
         Request::Get { keys } => keys.as_slice().first(),

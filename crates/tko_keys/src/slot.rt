@@ -14,7 +14,7 @@ use std::alloc::Global;
 use std::marker::Model;
 use std::mem::replace;
 use std::sync::Wait;
-use tko_links::{NoMemory, Outcome};
+use tko_links::{ExchangeNoMemory, Outcome};
 use tko_model::Reply;
 use tko_pools::Config;
 use tko_reply::{Dropped, OneKey, Outbox, stop};
@@ -171,7 +171,7 @@ impl Slot {
         let Some(waiting) = replace(&mut self.waiting, None) else {
             unreachable!();
         };
-        stop(waiting, NoMemory { sent: false })
+        stop(waiting, ExchangeNoMemory { sent: false })
     }
 
     /// How many attempts at the key ended before the server that it waits for.

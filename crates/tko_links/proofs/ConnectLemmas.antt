@@ -5,7 +5,7 @@ use Rattle.tko_links.specs.declared.wire.WireFault.{WireFault}
 use Rattle.tko_links.specs.ExchangeParts.{Opens}
 use Rattle.tko_links.specs.Exchanges.{IsPart, tried}
 use Rattle.tko_links.specs.Wires.{AllSame, OthersSame, WireItem, Checked, Failed, Shut}
-use Rattle.tko_links.specs.Wires.{connect_item, faults_in, is_ok}
+use Rattle.tko_links.specs.Wires.{connect_item, is_ok, wire_faults_in}
 use Rattle.tko_links.proofs.PartLemmas.{part_append, part_kept, part_one}
 
 module _ {W : Type 0} {servers : W → ℕ} {connected : W → ℕ → Bool} {failures : W → ℕ}
@@ -15,7 +15,7 @@ module _ {W : Type 0} {servers : W → ℕ} {connected : W → ℕ → Bool} {fa
   pub part_tried : {old new : W} (result : Result Unit WireFault)
       → steps old (connect_item server result) new
       → connected new server ≡ is_ok result → OthersSame server (connected old) (connected new)
-      → failures new ≡ failures old + faults_in result → servers new ≡ servers old
+      → failures new ≡ failures old + wire_faults_in result → servers new ≡ servers old
       → IsPart servers connected failures steps server old (tried (is_ok result) server ∷ [])
       (is_ok result) new
   part_tried (Ok done) step there others failed same = part_one step there others failed same

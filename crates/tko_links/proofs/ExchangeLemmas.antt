@@ -10,17 +10,17 @@ use Rattle.tko_links.specs.declared.fault.LinkFault.{LinkFault}
 use Rattle.tko_links.specs.declared.fault.LinkFault.TheVariants as fault
 use Rattle.tko_links.specs.declared.links.Outcome.TheVariants as outcome
 use Rattle.tko_links.specs.declared.wire.WireFault.TheVariants as wire_fault
-use Rattle.tko_links.specs.ExchangeParts.{Opens, ReceiveEnds, Receives, SendEnds, Sends}
+use Rattle.tko_links.specs.ExchangeParts.{Opens, ReceiveEnds, Receives, SendsPart, WriteEnds}
 use Rattle.tko_links.specs.ExchangeParts.{SendAndReceiveEnds, SendsAndReceives, returned}
 use Rattle.tko_links.specs.ExchangeParts.{stays_after}
-use Rattle.tko_links.specs.Exchanges.{Ends, IsExchange, IsFront, IsOpening, IsPart, IsShut}
+use Rattle.tko_links.specs.Exchanges.{BeginsText, ExchangeEnds, IsExchangeShut, IsOpening, IsPart, IsWireExchange}
 use Rattle.tko_links.specs.Exchanges.{closing_of, got_all, is_reached, wrote_all}
 use Rattle.tko_links.specs.Links.{is_counted, outcome_in}
 use Rattle.tko_links.specs.Wires.{WireItem, Failed, Shut}
 use Rattle.tko_links.proofs.PartLemmas.{part_append, part_as, part_none}
 
 unsent_end : (server : ℕ) (request : Request) (text : List ℕ) (pieces : List (List ℕ))
-    (tail : List WireItem) (f : LinkFault) → SendEnds server text pieces tail (Err f)
+    (tail : List WireItem) (f : LinkFault) → WriteEnds server text pieces tail (Err f)
     → SendAndReceiveEnds server request pieces [] tail (Err f)
 unsent_end server request text pieces tail fault.TimedOut ends = ends
 unsent_end server request text pieces tail fault.Broken ends = ends request
@@ -36,13 +36,13 @@ received_end server request sent got tail (Err fault.Broken) all ends = ends sen
 received_end server request sent got tail (Err fault.Memory) all ends = ends
 
 shut_end : (server : ℕ) (tail told : List WireItem) → tail ≡ told
-    → IsShut server told (tail ++ closing_of false server) false
+    → IsExchangeShut server told (tail ++ closing_of false server) false
 shut_end server tail told e = record { closed = ap (λ xs. xs ++ Shut server ∷ []) e; gone = refl }
 
 done_end : (server : ℕ) (request : Request) (sent got : List (List ℕ)) (tail : List WireItem)
     (result : Result (Response × Bool) LinkFault)
     → SendAndReceiveEnds server request sent got tail result
-    → Ends server request (outcome_in (returned result)) sent got
+    → ExchangeEnds server request (outcome_in (returned result)) sent got
     (tail ++ closing_of (stays_after result) server) (stays_after result)
 done_end server request sent got tail (Ok reply) ends = record {
   all_sent = ends.1;
@@ -85,14 +85,14 @@ module _ {W : Type 0} {servers : W → ℕ} {connected : W → ℕ → Bool} {fa
 
   -- the request was not written whole
   pub not_sent : {old new : W} {text : List ℕ} (f : LinkFault) → text ≡ request_text request
-      → Sends servers connected failures steps server text old (Err f) new
+      → SendsPart servers connected failures steps server text old (Err f) new
       → SendsAndReceives servers connected failures steps server request old (Err f) new
   not_sent {text} f e sends = record {
     sent = sends.pieces;
     got = [];
     tail = sends.tail;
     part = sends.part;
-    front = subst (λ xs. IsFront (concat sends.pieces) xs) e sends.front;
+    front = subst (λ xs. BeginsText (concat sends.pieces) xs) e sends.front;
     order = inl refl;
     ends = unsent_end server request text sends.pieces sends.tail f sends.ends;
   }
@@ -100,7 +100,7 @@ module _ {W : Type 0} {servers : W → ℕ} {connected : W → ℕ → Bool} {fa
   -- it was, and this came of the reading
   pub received_after_send : {old mid new : W} {text : List ℕ}
       (result : Result (Response × Bool) LinkFault) → text ≡ request_text request
-      → Sends servers connected failures steps server text old (Ok tt) mid
+      → SendsPart servers connected failures steps server text old (Ok tt) mid
       → Receives servers connected failures steps server request mid result new
       → SendsAndReceives servers connected failures steps server request old result new
   received_after_send {text} result e sends receives =
@@ -122,7 +122,7 @@ module _ {W : Type 0} {servers : W → ℕ} {connected : W → ℕ → Bool} {fa
       }
 
   pub exchange_refused : {old new : W} → Opens servers connected failures steps server old false new
-      → IsExchange servers connected failures steps server request old (Some outcome.Refused) new
+      → IsWireExchange servers connected failures steps server request old (Some outcome.Refused) new
   exchange_refused opened = record {
     opening = opened.items;
     sent = [];
@@ -142,7 +142,7 @@ module _ {W : Type 0} {servers : W → ℕ} {connected : W → ℕ → Bool} {fa
       → SendsAndReceives servers connected failures steps server request mid result talked
       → IsPart servers connected failures steps server talked
       (closing_of (stays_after result) server) (stays_after result) new
-      → IsExchange servers connected failures steps server request old
+      → IsWireExchange servers connected failures steps server request old
       (outcome_in (returned result)) new
   exchange_done {old} result opened talks close = record {
     opening = opened.items;

@@ -8,10 +8,10 @@ use Rattle.tko_text.specs.declared.response.fault.ReadFault.TheVariants as read_
 use Rattle.tko_text.specs.ResponseLengths.{IsLeastLength}
 use Rattle.tko_text.specs.Responses.{NoResponse, ReadsResponse}
 use Rattle.tko_text.proofs.ResponseLengthLemmas.{least_more, least_none, no_response_more, no_response_none, no_response_short}
-use Rattle.tko_links.specs.Incoming.{Arrival, HasCome, IsAwaited, nothing_yet}
+use Rattle.tko_links.specs.Incoming.{HasPieceCome, IsResponseAwaited, ResponseSoFar, nothing_yet}
 
 -- before the first byte the response is awaited
-pub awaited_at_first : (request : Request) → IsAwaited request nothing_yet
+pub awaited_at_first : (request : Request) → IsResponseAwaited request nothing_yet
 awaited_at_first request = record { unanswered = no_response_none request; least = least_none request [] }
 
 nothing_long : (xs : List ℕ) → length xs ≡ 0 → xs ≡ []
@@ -19,14 +19,14 @@ nothing_long [] e = refl
 nothing_long (x ∷ xs) e = absurd (omega (arith, e))
 
 -- at the end of input no front is a response
-pub ended_unanswered : (request : Request) (at : Arrival) (count : ℕ) → HasCome request at count → count ≡ 0
+pub ended_unanswered : (request : Request) (at : ResponseSoFar) (count : ℕ) → HasPieceCome request at count → count ≡ 0
     → NoResponse request at.bytes
 ended_unanswered request at count come none =
     let same : at.bytes ≡ come.front = come.whole ∙ ap (λ xs. come.front ++ xs) (nothing_long come.piece (come.len ∙ none)) ∙ append-nil come.front in
     subst (λ xs. NoResponse request xs) (sym same) come.awaited.unanswered
 
 -- the piece that came last
-last_piece : (request : Request) (at : Arrival) (count : ℕ) (come : HasCome request at count)
+last_piece : (request : Request) (at : ResponseSoFar) (count : ℕ) (come : HasPieceCome request at count)
     → drop (length at.bytes - count) at.bytes ≡ come.piece
 last_piece request at count come =
     let size = ap length come.whole ∙ length-append come.front come.piece in
@@ -34,8 +34,8 @@ last_piece request at count come =
     ∙ drop_at come.front come.piece (length at.bytes - count) (omega (arith, size, come.len))
 
 -- where no look is due, the response is still awaited
-pub still_awaited : (request : Request) (at : Arrival) (count : ℕ) → HasCome request at count
-    → (length at.bytes < at.least) ⊎ HasNoEnd (drop (length at.bytes - count) at.bytes) → IsAwaited request at
+pub still_awaited : (request : Request) (at : ResponseSoFar) (count : ℕ) → HasPieceCome request at count
+    → (length at.bytes < at.least) ⊎ HasNoEnd (drop (length at.bytes - count) at.bytes) → IsResponseAwaited request at
 still_awaited request at count come reason = record {
   unanswered = subst (λ xs. NoResponse request xs) (sym come.whole) (elim reason [
     | inl few ↦ no_response_short request come.front come.piece at.least come.awaited.least
@@ -49,7 +49,7 @@ still_awaited request at count come reason = record {
 
 -- after a look that found the beginning of a response
 pub awaited_after_look : (request : Request) (bytes : List ℕ) (least : ℕ) → ReadsResponse request bytes (Err read_fault.Short)
-    → IsLeastLength request bytes least → IsAwaited request (record { bytes = bytes; least = least })
+    → IsLeastLength request bytes least → IsResponseAwaited request (record { bytes = bytes; least = least })
 unfolding ReadsResponse
 awaited_after_look request bytes least short is = record { unanswered = short.1; least = is }
 

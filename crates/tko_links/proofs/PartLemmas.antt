@@ -3,14 +3,14 @@ use Rattle.std.proofs.Common.{◌≡◌, ℕ, zero, suc, ◌+◌, ◌<◌, Bool,
 use Rattle.std.proofs.lemmas.List.Sums.{sum_by-append, sum_by-cons}
 use Rattle.tko_model.proofs.RecordLemmas.{gains_append, gains_none, gains_one}
 use Rattle.tko_links.specs.Exchanges.{IsPart, failures_of}
-use Rattle.tko_links.specs.Wires.{AllSame, OthersSame, WireItem, Wrote, refusals_in}
+use Rattle.tko_links.specs.Wires.{AllSame, OthersSame, WireItem, Wrote, wire_refusals_in}
 
 sum_one : (item : WireItem) → sum_by failures_of (item ∷ []) ≡ failures_of item
 sum_one item = omega (arith, sum_by-cons failures_of item [])
 
 -- to take none of a piece is one failure
 pub refusals_are : (server : ℕ) (piece : List ℕ) (count : ℕ) → 0 < length piece
-    → refusals_in piece (Ok count) ≡ failures_of (Wrote server (take count piece))
+    → wire_refusals_in piece (Ok count) ≡ failures_of (Wrote server (take count piece))
 refusals_are server [] count some = absurd (omega (arith, some))
 refusals_are server (b ∷ bytes) zero some = search (rules, tests)
 refusals_are server (b ∷ bytes) (suc n) some = search (rules, tests)

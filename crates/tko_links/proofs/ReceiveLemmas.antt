@@ -12,7 +12,7 @@ use Rattle.tko_links.specs.declared.fault.LinkFault.TheVariants as fault
 use Rattle.tko_links.specs.declared.wire.WireFault.TheVariants as wire_fault
 use Rattle.tko_links.specs.ExchangeParts.{ReadsPiece, ReceiveEnds, Receives}
 use Rattle.tko_links.specs.Exchanges.{ConnectionFailed, Ended, Unreadable, IsPart, got_all}
-use Rattle.tko_links.specs.Incoming.{Arrival, IsAwaited, HasCome, IsReply, Judges, nothing_yet}
+use Rattle.tko_links.specs.Incoming.{ResponseSoFar, IsResponseAwaited, HasPieceCome, BeginsWithReply, JudgesBytes, nothing_yet}
 use Rattle.tko_links.specs.Wires.{WireItem, Failed}
 use Rattle.tko_links.proofs.IncomingLemmas.{awaited_at_first}
 use Rattle.tko_links.proofs.PartLemmas.{part_append, part_as, part_none}
@@ -21,11 +21,11 @@ use Rattle.tko_links.proofs.SendLemmas.{concat_push, part_got}
 -- so many pieces were read for a response that is still awaited
 pub record GotSoFar {W : Type 0} (servers : W → ℕ) (connected : W → ℕ → Bool) (failures : W → ℕ)
     (steps : W → WireItem → W → Type 0) (server : ℕ) (request : Request) (old : W)
-    (arrival : Arrival) (new : W) : Type 0 where
+    (arrival : ResponseSoFar) (new : W) : Type 0 where
   pub pieces : List (List ℕ)
   pub part : IsPart servers connected failures steps server old (got_all server pieces) true new
   pub whole : concat pieces ≡ arrival.bytes
-  pub awaited : IsAwaited request arrival
+  pub awaited : IsResponseAwaited request arrival
 
 got_bytes : (pieces : List (List ℕ)) (piece bytes bytes' : List ℕ) → concat pieces ≡ bytes
     → bytes' ≡ bytes ++ piece
@@ -38,8 +38,8 @@ nothing_long [] e = refl
 nothing_long (x ∷ xs) e = absurd (omega (arith, e))
 
 judged_end : (server : ℕ) (request : Request) (pieces : List (List ℕ)) (piece bytes : List ℕ)
-    (count : ℕ) (next : Arrival) (f : LinkFault) → concat (pieces ++ piece ∷ []) ≡ bytes
-    → length piece ≡ count → Judges request bytes count next (Err f)
+    (count : ℕ) (next : ResponseSoFar) (f : LinkFault) → concat (pieces ++ piece ∷ []) ≡ bytes
+    → length piece ≡ count → JudgesBytes request bytes count next (Err f)
     → ReceiveEnds server request (pieces ++ piece ∷ []) [] (Err f)
 judged_end server request pieces piece bytes count next fault.TimedOut e len judged = absurd judged
 judged_end server request pieces piece bytes count next fault.Broken e len judged =
@@ -56,21 +56,21 @@ judged_end server request pieces piece bytes count next fault.Memory e len judge
 module _ {W : Type 0} {servers : W → ℕ} {connected : W → ℕ → Bool} {failures : W → ℕ}
     {steps : W → WireItem → W → Type 0}
     {server : ℕ} {request : Request} where
-  pub got_none : (old : W) (at : Arrival) → connected old server ≡ true → at ≡ nothing_yet
+  pub got_none : (old : W) (at : ResponseSoFar) → connected old server ≡ true → at ≡ nothing_yet
       → GotSoFar servers connected failures steps server request old at old
   got_none old at there e = record {
     pieces = [];
     part = part_none there;
-    whole = ap (λ (a : Arrival). a.bytes) (sym e);
-    awaited = subst (λ (a : Arrival). IsAwaited request a) (sym e) (awaited_at_first request);
+    whole = ap (λ (a : ResponseSoFar). a.bytes) (sym e);
+    awaited = subst (λ (a : ResponseSoFar). IsResponseAwaited request a) (sym e) (awaited_at_first request);
   }
 
   -- a piece came
-  pub come_of : {old mid new : W} {at next : Arrival} {count : ℕ}
+  pub come_of : {old mid new : W} {at next : ResponseSoFar} {count : ℕ}
       → GotSoFar servers connected failures steps server request old at mid
       → ReadsPiece servers connected failures steps server mid at.bytes (Ok count) new next.bytes
       → next.least ≡ at.least
-      → HasCome request next count
+      → HasPieceCome request next count
   come_of {at} {next} got read least = record {
     front = at.bytes;
     piece = read.0;
@@ -83,10 +83,10 @@ module _ {W : Type 0} {servers : W → ℕ} {connected : W → ℕ → Bool} {fa
   }
 
   -- and the response is still awaited
-  pub got_more : {old mid new : W} {at : Arrival} (next after : Arrival) {count : ℕ}
+  pub got_more : {old mid new : W} {at : ResponseSoFar} (next after : ResponseSoFar) {count : ℕ}
       → GotSoFar servers connected failures steps server request old at mid
       → ReadsPiece servers connected failures steps server mid at.bytes (Ok count) new next.bytes
-      → after.bytes ≡ next.bytes → IsAwaited request after
+      → after.bytes ≡ next.bytes → IsResponseAwaited request after
       → GotSoFar servers connected failures steps server request old after new
   got_more {at} next after got read same awaited = record {
     pieces = got.pieces ++ read.0 ∷ [];
@@ -96,11 +96,11 @@ module _ {W : Type 0} {servers : W → ℕ} {connected : W → ℕ → Bool} {fa
   }
 
   -- or it is whole
-  pub receives_reply : {old mid new : W} {at : Arrival} (next : Arrival) {count : ℕ}
+  pub receives_reply : {old mid new : W} {at : ResponseSoFar} (next : ResponseSoFar) {count : ℕ}
       (reply : Response × Bool)
       → GotSoFar servers connected failures steps server request old at mid
       → ReadsPiece servers connected failures steps server mid at.bytes (Ok count) new next.bytes
-      → IsReply request next.bytes reply.0 reply.1
+      → BeginsWithReply request next.bytes reply.0 reply.1
       → Receives servers connected failures steps server request old (Ok reply) new
   receives_reply {at} next reply got read is = record {
     pieces = got.pieces ++ read.0 ∷ [];
@@ -109,17 +109,17 @@ module _ {W : Type 0} {servers : W → ℕ} {connected : W → ℕ → Bool} {fa
         (part_got got.pieces read.0 got.part read.3);
     ends = (
       refl,
-      subst (λ xs. IsReply request xs reply.0 reply.1)
+      subst (λ xs. BeginsWithReply request xs reply.0 reply.1)
           (sym (got_bytes got.pieces read.0 at.bytes next.bytes got.whole read.1)) is,
     );
   }
 
   -- or it never will be
-  pub receives_judged : {old mid new : W} {at : Arrival} (next after : Arrival) {count : ℕ}
+  pub receives_judged : {old mid new : W} {at : ResponseSoFar} (next after : ResponseSoFar) {count : ℕ}
       (f : LinkFault)
       → GotSoFar servers connected failures steps server request old at mid
       → ReadsPiece servers connected failures steps server mid at.bytes (Ok count) new next.bytes
-      → Judges request next.bytes count after (Err f)
+      → JudgesBytes request next.bytes count after (Err f)
       → Receives servers connected failures steps server request old (Err f) new
   receives_judged {at} next after {count} f got read judged = record {
     pieces = got.pieces ++ read.0 ∷ [];
@@ -132,7 +132,7 @@ module _ {W : Type 0} {servers : W → ℕ} {connected : W → ℕ → Bool} {fa
   }
 
   -- a read failed, or there was no memory for it
-  pub receives_failed : {old mid new : W} {at : Arrival} (bytes : List ℕ) (f : LinkFault)
+  pub receives_failed : {old mid new : W} {at : ResponseSoFar} (bytes : List ℕ) (f : LinkFault)
       → GotSoFar servers connected failures steps server request old at mid
       → ReadsPiece servers connected failures steps server mid at.bytes (Err f) new bytes
       → Receives servers connected failures steps server request old (Err f) new

@@ -9,10 +9,10 @@ use Rattle.std.proofs.lemmas.List.Folds.{concat-append}
 use Rattle.tko_links.specs.declared.fault.LinkFault.TheVariants as fault
 use Rattle.tko_links.specs.declared.wire.WireFault.{WireFault}
 use Rattle.tko_links.specs.declared.wire.WireFault.TheVariants as wire_fault
-use Rattle.tko_links.specs.ExchangeParts.{SendEnds, Sends}
-use Rattle.tko_links.specs.Exchanges.{ConnectionFailed, WriteTookNone, IsFront, IsPart}
+use Rattle.tko_links.specs.ExchangeParts.{SendsPart, WriteEnds}
+use Rattle.tko_links.specs.Exchanges.{ConnectionFailed, WriteTookNone, BeginsText, IsPart}
 use Rattle.tko_links.specs.Exchanges.{got_all, wrote_all}
-use Rattle.tko_links.specs.Faults.{fault_of}
+use Rattle.tko_links.specs.Faults.{link_fault_of}
 use Rattle.tko_links.specs.Wires.{WireItem, Failed, Got, Wrote}
 use Rattle.tko_links.proofs.PartLemmas.{part_append, part_as, part_none}
 
@@ -37,14 +37,14 @@ take_next xs n more =
     ∙ ap (λ rest. take n xs ++ take more rest)
     (sym (take_all (length xs - n) (drop n xs) (omega (arith, length-drop n xs))))
 
-front_of : (bytes text : List ℕ) (at : ℕ) → bytes ≡ take at text → IsFront bytes text
+front_of : (bytes text : List ℕ) (at : ℕ) → bytes ≡ take at text → BeginsText bytes text
 front_of bytes text at e = record {
   rest = drop at text;
   whole = sym (take-append-drop at text) ∙ ap (λ xs. xs ++ drop at text) (sym e);
 }
 
 failed_end : (server : ℕ) (text : List ℕ) (pieces : List (List ℕ)) (f : WireFault)
-    → SendEnds server text pieces (Failed server f ∷ []) (Err (fault_of f))
+    → WriteEnds server text pieces (Failed server f ∷ []) (Err (link_fault_of f))
 failed_end server text pieces wire_fault.TimedOut = refl
 failed_end server text pieces wire_fault.Other = λ request. ConnectionFailed refl
 
@@ -81,7 +81,7 @@ module _ {W : Type 0} {servers : W → ℕ} {connected : W → ℕ → Bool} {fa
 
   pub sends_all : {text : List ℕ} {old new : W} {at : ℕ}
       → SentSoFar servers connected failures steps server text old at new
-      → length text ≤ at → Sends servers connected failures steps server text old (Ok tt) new
+      → length text ≤ at → SendsPart servers connected failures steps server text old (Ok tt) new
   sends_all {text} {at} sent all = record {
     pieces = sent.pieces;
     tail = [];
@@ -93,7 +93,7 @@ module _ {W : Type 0} {servers : W → ℕ} {connected : W → ℕ → Bool} {fa
   pub sends_failed : {text : List ℕ} {old mid new : W} {at : ℕ} (f : WireFault)
       → SentSoFar servers connected failures steps server text old at mid
       → IsPart servers connected failures steps server mid (Failed server f ∷ []) true new
-      → Sends servers connected failures steps server text old (Err (fault_of f)) new
+      → SendsPart servers connected failures steps server text old (Err (link_fault_of f)) new
   sends_failed {text} {at} f sent last = record {
     pieces = sent.pieces;
     tail = Failed server f ∷ [];
@@ -106,7 +106,7 @@ module _ {W : Type 0} {servers : W → ℕ} {connected : W → ℕ → Bool} {fa
   pub sends_stuck : {text : List ℕ} {old mid new : W} {at : ℕ}
       → SentSoFar servers connected failures steps server text old at mid
       → IsPart servers connected failures steps server mid (Wrote server [] ∷ []) true new
-      → Sends servers connected failures steps server text old (Err fault.Broken) new
+      → SendsPart servers connected failures steps server text old (Err fault.Broken) new
   sends_stuck {text} {at} sent last = record {
     pieces = sent.pieces ++ [] ∷ [];
     tail = [];

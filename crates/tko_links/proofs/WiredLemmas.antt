@@ -8,18 +8,18 @@ use Rattle.tko_text.specs.declared.request.Request.{Request}
 use Rattle.tko_text.specs.Requests.{request_text}
 use Rattle.tko_links.specs.declared.links.Outcome.{Outcome}
 use Rattle.tko_links.specs.declared.links.Outcome.TheVariants as outcome
-use Rattle.tko_links.specs.Exchanges.{ConnectionFailed, Ended, Ends, IsBroken, IsExchange, IsFront, IsOpening, Unreadable, WriteTookNone, closing_of, given_up, got_all, tried, wrote_all}
-use Rattle.tko_links.specs.declared.links.NoMemory.{NoMemory}
+use Rattle.tko_links.specs.Exchanges.{BeginsText, ConnectionFailed, Ended, ExchangeEnds, IsBroken, IsOpening, IsWireExchange, Unreadable, WriteTookNone, closing_of, given_up, got_all, tried, wrote_all}
+use Rattle.tko_links.specs.declared.links.ExchangeNoMemory.{ExchangeNoMemory}
 use Rattle.tko_links.specs.Links.{LinksItem, Sent, Probed, outcome_in}
 use Rattle.tko_links.specs.Scripted.{probes_after_all, sends_after_all}
-use Rattle.tko_links.specs.WireRecords.{AreAt, IsDone, IsWireRecord, bytes_of, written_in}
-use Rattle.tko_links.specs.Wired.{IsOverWire, IsWired, WiredState, asked_in}
+use Rattle.tko_links.specs.WireRecords.{AreAt, IsExchangeDone, IsWireRecord, bytes_of, wire_written_in}
+use Rattle.tko_links.specs.Wired.{IsOverWire, IsWired, WiredState, request_in}
 use Rattle.tko_links.specs.Wires.{WireItem, Checked, Failed, Limited, Shut}
 
 -- items at one server that wrote nothing
 record IsSilent (server : ℕ) (items : List WireItem) : Type 0 where
   own : AreAt server items
-  quiet : written_in items ≡ []
+  quiet : wire_written_in items ≡ []
 
 at_append : (server : ℕ) (items others : List WireItem) → AreAt server items → AreAt server others → AreAt server (items ++ others)
 at_append server [] others front back = back
@@ -29,7 +29,7 @@ wrote_at : (server : ℕ) (pieces : List (List ℕ)) → AreAt server (wrote_all
 wrote_at server [] = tt
 wrote_at server (piece ∷ pieces) = (refl, wrote_at server pieces)
 
-wrote_bytes : (server : ℕ) (pieces : List (List ℕ)) → written_in (wrote_all server pieces) ≡ concat pieces
+wrote_bytes : (server : ℕ) (pieces : List (List ℕ)) → wire_written_in (wrote_all server pieces) ≡ concat pieces
 wrote_bytes server [] = refl
 wrote_bytes server (piece ∷ pieces) = ap (λ xs. piece ++ xs) (wrote_bytes server pieces)
 
@@ -76,7 +76,7 @@ cut_silent server request sent got tail (Unreadable e wrong) =
     silent_as server (tail ++ Shut server ∷ []) _ (ap (λ xs. xs ++ Shut server ∷ []) e) (shut_silent server)
 
 closing_silent : (server : ℕ) (request : Request) (came : Option Outcome) (sent got : List (List ℕ)) (closing : List WireItem) (stays : Bool)
-    → Ends server request came sent got closing stays → IsSilent server closing
+    → ExchangeEnds server request came sent got closing stays → IsSilent server closing
 closing_silent server request (Some (outcome.Reply response)) sent got closing stays ends =
     silent_as server closing (closing_of stays server) ends.closed (stays_silent server stays)
 closing_silent server request (Some outcome.Refused) sent got closing stays ends =
@@ -90,33 +90,33 @@ closing_silent server request (Some outcome.Spent) sent got closing stays ends =
 closing_silent server request None sent got closing stays ends =
     silent_as server closing _ ends.closed (shut_silent server)
 
-only_written : (opening wrote got closing : List WireItem) → written_in opening ≡ [] → written_in got ≡ [] → written_in closing ≡ []
-    → written_in (opening ++ (wrote ++ (got ++ closing))) ≡ written_in wrote
+only_written : (opening wrote got closing : List WireItem) → wire_written_in opening ≡ [] → wire_written_in got ≡ [] → wire_written_in closing ≡ []
+    → wire_written_in (opening ++ (wrote ++ (got ++ closing))) ≡ wire_written_in wrote
 only_written opening wrote got closing o g c =
     flat_map-append bytes_of opening (wrote ++ (got ++ closing))
-    ∙ ap (λ xs. xs ++ written_in (wrote ++ (got ++ closing))) o
+    ∙ ap (λ xs. xs ++ wire_written_in (wrote ++ (got ++ closing))) o
     ∙ flat_map-append bytes_of wrote (got ++ closing)
-    ∙ ap (λ xs. written_in wrote ++ xs) (flat_map-append bytes_of got closing ∙ ap (λ xs. xs ++ written_in closing) g ∙ c)
-    ∙ append-nil (written_in wrote)
+    ∙ ap (λ xs. wire_written_in wrote ++ xs) (flat_map-append bytes_of got closing ∙ ap (λ xs. xs ++ wire_written_in closing) g ∙ c)
+    ∙ append-nil (wire_written_in wrote)
 
 -- the wire's items of one item of the links
 record Done {W : Type 0} (steps : W → WireItem → W → Type 0) (it : LinksItem) (old new : W) : Type 0 where
   items : List WireItem
-  done : IsDone it items
+  done : IsExchangeDone it items
   gains : Gains steps old items new
 
 probe_bytes : (server : ℕ) (items : List WireItem)
-    → written_in (Limited server true ∷ (items ++ Limited server false ∷ [])) ≡ written_in items
-probe_bytes server items = flat_map-append bytes_of items (Limited server false ∷ []) ∙ append-nil (written_in items)
+    → wire_written_in (Limited server true ∷ (items ++ Limited server false ∷ [])) ≡ wire_written_in items
+probe_bytes server items = flat_map-append bytes_of items (Limited server false ∷ []) ∙ append-nil (wire_written_in items)
 
 module _ {W : Type 0} {servers : W → ℕ} {connected : W → ℕ → Bool} {failures : W → ℕ} {steps : W → WireItem → W → Type 0} where
   abbrev items_of : {server : ℕ} {request : Request} {old new : W} {came : Option Outcome}
-      → IsExchange servers connected failures steps server request old came new → List WireItem
+      → IsWireExchange servers connected failures steps server request old came new → List WireItem
   items_of {server} exchange =
       exchange.opening ++ (wrote_all server exchange.sent ++ (got_all server exchange.got ++ exchange.closing))
 
   exchange_at : {server : ℕ} {request : Request} {old new : W} {came : Option Outcome}
-      → (exchange : IsExchange servers connected failures steps server request old came new) → AreAt server (items_of exchange)
+      → (exchange : IsWireExchange servers connected failures steps server request old came new) → AreAt server (items_of exchange)
   exchange_at {server} {request} {old} {came} exchange =
       let opening = opening_silent server _ _ exchange.opening exchange.opens in
       let closing = closing_silent server request came exchange.sent exchange.got exchange.closing exchange.stays exchange.ends in
@@ -125,8 +125,8 @@ module _ {W : Type 0} {servers : W → ℕ} {connected : W → ℕ → Bool} {fa
       (at_append server (got_all server exchange.got) exchange.closing (got_silent server exchange.got).own closing.own))
 
   exchange_bytes : {server : ℕ} {request : Request} {old new : W} {came : Option Outcome}
-      → (exchange : IsExchange servers connected failures steps server request old came new)
-      → written_in (items_of exchange) ≡ concat exchange.sent
+      → (exchange : IsWireExchange servers connected failures steps server request old came new)
+      → wire_written_in (items_of exchange) ≡ concat exchange.sent
   exchange_bytes {server} {request} {old} {came} exchange =
       let opening = opening_silent server _ _ exchange.opening exchange.opens in
       let closing = closing_silent server request came exchange.sent exchange.got exchange.closing exchange.stays exchange.ends in
@@ -141,7 +141,7 @@ item_done servers connected failures steps (Sent server request came) exchange =
   items = items_of exchange;
   done = record {
     own = exchange_at exchange;
-    front = subst (λ xs. IsFront xs (request_text request)) (sym (exchange_bytes exchange)) exchange.front;
+    front = subst (λ xs. BeginsText xs (request_text request)) (sym (exchange_bytes exchange)) exchange.front;
   };
   gains = exchange.part.gains;
 }
@@ -151,7 +151,7 @@ item_done servers connected failures steps (Probed server came) probing =
       items = Limited server true ∷ (items_of exchange ++ Limited server false ∷ []);
       done = record {
         own = (refl, at_append server (items_of exchange) _ (exchange_at exchange) (refl, tt));
-        front = subst (λ xs. IsFront xs (request_text (asked_in (Probed server came))))
+        front = subst (λ xs. BeginsText xs (request_text (request_in (Probed server came))))
             (sym (probe_bytes server (items_of exchange) ∙ exchange_bytes exchange)) exchange.front;
       };
       gains = gains_append probing.begun.gains (gains_append exchange.part.gains probing.ended.gains);
@@ -186,10 +186,10 @@ module _ {W : Type 0} {servers : W → ℕ} {connected : W → ℕ → Bool} {fa
   wire_record old new items gains = records servers connected failures steps old new items gains.leads
 
   -- no exchange over a wire is aborted
-  pub not_aborted : {server : ℕ} {request : Request} {old new : W} (result : Result Outcome NoMemory)
-      → IsExchange servers connected failures steps server request old (outcome_in result) new
+  pub not_aborted : {server : ℕ} {request : Request} {old new : W} (result : Result Outcome ExchangeNoMemory)
+      → IsWireExchange servers connected failures steps server request old (outcome_in result) new
       → ¬ (result ≡ Ok outcome.Aborted)
   not_aborted {server} {request} {old} {new} result exchange is =
-      let P : Result Outcome NoMemory → Type 0 =
-      λ came. IsExchange servers connected failures steps server request old (outcome_in came) new in
+      let P : Result Outcome ExchangeNoMemory → Type 0 =
+      λ came. IsWireExchange servers connected failures steps server request old (outcome_in came) new in
       (subst P is exchange).ends

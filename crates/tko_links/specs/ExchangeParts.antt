@@ -6,13 +6,13 @@ use Rattle.tko_text.specs.declared.response.Response.{Response}
 use Rattle.tko_text.specs.Requests.{request_text}
 use Rattle.tko_links.specs.declared.fault.LinkFault.{LinkFault}
 use Rattle.tko_links.specs.declared.fault.LinkFault.TheVariants as fault
-use Rattle.tko_links.specs.declared.links.NoMemory.{NoMemory}
+use Rattle.tko_links.specs.declared.links.ExchangeNoMemory.{ExchangeNoMemory}
 use Rattle.tko_links.specs.declared.links.Outcome.{Outcome}
 use Rattle.tko_links.specs.declared.links.Outcome.TheVariants as outcome
 use Rattle.tko_links.specs.declared.wire.WireFault.TheVariants as wire_fault
-use Rattle.tko_links.specs.Exchanges.{IsBroken, IsFront, IsOpening, IsPart, got_all, wrote_all}
-use Rattle.tko_links.specs.Faults.{outcome_of}
-use Rattle.tko_links.specs.Incoming.{IsReply}
+use Rattle.tko_links.specs.Exchanges.{BeginsText, IsBroken, IsOpening, IsPart, got_all, wrote_all}
+use Rattle.tko_links.specs.Faults.{exchange_outcome}
+use Rattle.tko_links.specs.Incoming.{BeginsWithReply}
 use Rattle.tko_links.specs.Wires.{WireItem, Got, Failed}
 
 -- a connection was found or made, or could not be made
@@ -24,16 +24,16 @@ pub record Opens {W : Type 0} (servers : W → ℕ) (connected : W → ℕ → B
   pub opens : IsOpening server (connected old server) is_open items
 
 -- how a writing of the text ends after these pieces
-abbrev pub SendEnds : ℕ → List ℕ → List (List ℕ) → List WireItem → Result Unit LinkFault → Type 0
-SendEnds server text pieces tail (Ok done) = (tail ≡ []) × (concat pieces ≡ text)
-SendEnds server text pieces tail (Err fault.TimedOut) =
+abbrev pub WriteEnds : ℕ → List ℕ → List (List ℕ) → List WireItem → Result Unit LinkFault → Type 0
+WriteEnds server text pieces tail (Ok done) = (tail ≡ []) × (concat pieces ≡ text)
+WriteEnds server text pieces tail (Err fault.TimedOut) =
     tail ≡ Failed server wire_fault.TimedOut ∷ []
-SendEnds server text pieces tail (Err fault.Broken) =
+WriteEnds server text pieces tail (Err fault.Broken) =
     (request : Request) → IsBroken server request pieces [] tail
-SendEnds server text pieces tail (Err fault.Memory) = ⊥
+WriteEnds server text pieces tail (Err fault.Memory) = ⊥
 
 -- a beginning of the text was written
-pub record Sends {W : Type 0} (servers : W → ℕ) (connected : W → ℕ → Bool) (failures : W → ℕ)
+pub record SendsPart {W : Type 0} (servers : W → ℕ) (connected : W → ℕ → Bool) (failures : W → ℕ)
     (steps : W → WireItem → W → Type 0) (server : ℕ) (text : List ℕ) (old : W)
     (result : Result Unit LinkFault) (new : W)
     : Type 0 where
@@ -41,8 +41,8 @@ pub record Sends {W : Type 0} (servers : W → ℕ) (connected : W → ℕ → B
   pub tail : List WireItem
   pub part : IsPart servers connected failures steps server old
       (wrote_all server pieces ++ tail) true new
-  pub front : IsFront (concat pieces) text
-  pub ends : SendEnds server text pieces tail result
+  pub front : BeginsText (concat pieces) text
+  pub ends : WriteEnds server text pieces tail result
 
 -- what one read for a response did: a piece came, which may be empty, or the read failed; where
 -- memory for the room ran out, nothing was read
@@ -64,7 +64,7 @@ ReadsPiece servers connected failures steps server old bytes (Err fault.Memory) 
 abbrev pub ReceiveEnds : ℕ → Request → List (List ℕ) → List WireItem
     → Result (Response × Bool) LinkFault → Type 0
 ReceiveEnds server request pieces tail (Ok reply) =
-    (tail ≡ []) × IsReply request (concat pieces) reply.0 reply.1
+    (tail ≡ []) × BeginsWithReply request (concat pieces) reply.0 reply.1
 ReceiveEnds server request pieces tail (Err fault.TimedOut) =
     tail ≡ Failed server wire_fault.TimedOut ∷ []
 ReceiveEnds server request pieces tail (Err fault.Broken) =
@@ -85,7 +85,7 @@ abbrev pub SendAndReceiveEnds : ℕ → Request → List (List ℕ) → List (Li
     → Result (Response × Bool) LinkFault → Type 0
 SendAndReceiveEnds server request sent got tail (Ok reply) =
     (tail ≡ []) × (concat sent ≡ request_text request)
-    × IsReply request (concat got) reply.0 reply.1
+    × BeginsWithReply request (concat got) reply.0 reply.1
 SendAndReceiveEnds server request sent got tail (Err fault.TimedOut) =
     tail ≡ Failed server wire_fault.TimedOut ∷ []
 SendAndReceiveEnds server request sent got tail (Err fault.Broken) =
@@ -102,7 +102,7 @@ pub record SendsAndReceives {W : Type 0} (servers : W → ℕ) (connected : W �
   pub tail : List WireItem
   pub part : IsPart servers connected failures steps server old
       (wrote_all server sent ++ (got_all server got ++ tail)) true new
-  pub front : IsFront (concat sent) (request_text request)
+  pub front : BeginsText (concat sent) (request_text request)
   pub order : (got ≡ []) ⊎ (concat sent ≡ request_text request)
   pub ends : SendAndReceiveEnds server request sent got tail result
 
@@ -112,6 +112,6 @@ stays_after (Ok reply) = reply.1
 stays_after (Err fault) = false
 
 -- what an exchange returns, which was counted
-abbrev pub returned : Result (Response × Bool) LinkFault → Result Outcome NoMemory
+abbrev pub returned : Result (Response × Bool) LinkFault → Result Outcome ExchangeNoMemory
 returned (Ok reply) = Ok (outcome.Reply reply.0)
-returned (Err fault) = outcome_of fault
+returned (Err fault) = exchange_outcome fault

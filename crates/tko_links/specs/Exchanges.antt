@@ -11,7 +11,7 @@ use Rattle.tko_text.specs.Responses.{NoResponse, ReadsResponse}
 use Rattle.tko_links.specs.declared.links.Outcome.{Outcome}
 use Rattle.tko_links.specs.declared.links.Outcome.TheVariants as outcome
 use Rattle.tko_links.specs.declared.wire.WireFault.TheVariants as wire_fault
-use Rattle.tko_links.specs.Incoming.{IsReply}
+use Rattle.tko_links.specs.Incoming.{BeginsWithReply}
 use Rattle.tko_links.specs.Wires.{WireItem, Connected, Unconnected, Wrote, Got, Failed, Shut, Checked, Limited, OthersSame}
 
 -- how many failures of the wire an item is: to take none of a piece is one
@@ -62,7 +62,7 @@ abbrev pub got_all : ℕ → List (List ℕ) → List WireItem
 got_all server pieces = map (Got server) pieces
 
 -- the bytes begin the text
-pub record IsFront (bytes text : List ℕ) : Type 0 where
+pub record BeginsText (bytes text : List ℕ) : Type 0 where
   pub rest : List ℕ
   pub whole : text ≡ bytes ++ rest
 
@@ -93,7 +93,7 @@ closing_of false server = Shut server ∷ []
 pub record IsAnswered (server : ℕ) (request : Request) (response : Response)
     (sent got : List (List ℕ)) (closing : List WireItem) (stays : Bool) : Type 0 where
   pub all_sent : concat sent ≡ request_text request
-  pub reply : IsReply request (concat got) response stays
+  pub reply : BeginsWithReply request (concat got) response stays
   pub closed : closing ≡ closing_of stays server
 
 -- nothing is written or read without a connection
@@ -105,24 +105,25 @@ pub record IsRefused (sent got : List (List ℕ)) (closing : List WireItem) (sta
   pub gone : stays ≡ false
 
 -- the end of an exchange without a response: this, and then the connection is shut
-pub record IsShut (server : ℕ) (tail closing : List WireItem) (stays : Bool) : Type 0 where
+pub record IsExchangeShut (server : ℕ) (tail closing : List WireItem) (stays : Bool) : Type 0 where
   pub closed : closing ≡ tail ++ Shut server ∷ []
   pub gone : stays ≡ false
 
 -- how an exchange ends, by what came of it; nothing where memory ran out
-abbrev pub Ends : ℕ → Request → Option Outcome → List (List ℕ) → List (List ℕ) → List WireItem
-    → Bool → Type 0
-Ends server request (Some (outcome.Reply response)) sent got closing stays =
+abbrev pub ExchangeEnds : ℕ → Request → Option Outcome → List (List ℕ)
+    → List (List ℕ) → List WireItem → Bool → Type 0
+ExchangeEnds server request (Some (outcome.Reply response)) sent got closing stays =
     IsAnswered server request response sent got closing stays
-Ends server request (Some outcome.Refused) sent got closing stays = IsRefused sent got closing stays
-Ends server request (Some outcome.Timeout) sent got closing stays =
-    IsShut server (Failed server wire_fault.TimedOut ∷ []) closing stays
-Ends server request (Some outcome.Broken) sent got closing stays =
+ExchangeEnds server request (Some outcome.Refused) sent got closing stays =
+    IsRefused sent got closing stays
+ExchangeEnds server request (Some outcome.Timeout) sent got closing stays =
+    IsExchangeShut server (Failed server wire_fault.TimedOut ∷ []) closing stays
+ExchangeEnds server request (Some outcome.Broken) sent got closing stays =
     (tail : List WireItem) × IsBroken server request sent got tail
-    × IsShut server tail closing stays
-Ends server request (Some outcome.Aborted) sent got closing stays = ⊥
-Ends server request (Some outcome.Spent) sent got closing stays = ⊥
-Ends server request None sent got closing stays = IsShut server [] closing stays
+    × IsExchangeShut server tail closing stays
+ExchangeEnds server request (Some outcome.Aborted) sent got closing stays = ⊥
+ExchangeEnds server request (Some outcome.Spent) sent got closing stays = ⊥
+ExchangeEnds server request None sent got closing stays = IsExchangeShut server [] closing stays
 
 -- whether an exchange had a connection
 abbrev pub is_reached : Option Outcome → Bool
@@ -131,9 +132,9 @@ is_reached _ = true
 
 -- Of this request that came, and the wire did this: a connection was found or made, a beginning of
 -- the request was written, bytes were read only after all of it, and the exchange ended.
-pub record IsExchange {W : Type 0} (servers : W → ℕ) (connected : W → ℕ → Bool) (failures : W → ℕ)
-    (steps : W → WireItem → W → Type 0) (server : ℕ) (request : Request) (old : W)
-    (came : Option Outcome) (new : W) : Type 0 where
+pub record IsWireExchange {W : Type 0} (servers : W → ℕ) (connected : W → ℕ → Bool)
+    (failures : W → ℕ) (steps : W → WireItem → W → Type 0) (server : ℕ) (request : Request)
+    (old : W) (came : Option Outcome) (new : W) : Type 0 where
   pub opening : List WireItem
   pub sent : List (List ℕ)
   pub got : List (List ℕ)
@@ -142,9 +143,9 @@ pub record IsExchange {W : Type 0} (servers : W → ℕ) (connected : W → ℕ 
   pub part : IsPart servers connected failures steps server old
       (opening ++ (wrote_all server sent ++ (got_all server got ++ closing))) stays new
   pub opens : IsOpening server (connected old server) (is_reached came) opening
-  pub front : IsFront (concat sent) (request_text request)
+  pub front : BeginsText (concat sent) (request_text request)
   pub order : (got ≡ []) ⊎ (concat sent ≡ request_text request)
-  pub ends : Ends server request came sent got closing stays
+  pub ends : ExchangeEnds server request came sent got closing stays
 
 -- A probe asks for the version, in an exchange under the time limit of probes. After it the whole
 -- limit is set again.
@@ -155,6 +156,6 @@ pub record IsProbing {W : Type 0} (servers : W → ℕ) (connected : W → ℕ �
   pub last : W
   pub begun : IsPart servers connected failures steps server old (Limited server true ∷ [])
       (connected old server) first
-  pub exchange : IsExchange servers connected failures steps server version first came last
+  pub exchange : IsWireExchange servers connected failures steps server version first came last
   pub ended : IsPart servers connected failures steps server last (Limited server false ∷ [])
       (connected last server) new

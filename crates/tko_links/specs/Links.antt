@@ -3,7 +3,7 @@ use Rattle.std.specs.Prelude.{◌≡◌, ℕ, Bool, true, false, ◌==◌, ◌&&
 use Rattle.tko_text.specs.declared.request.Request.{Request}
 use Rattle.tko_links.specs.declared.links.Outcome.{Outcome}
 use Rattle.tko_links.specs.declared.links.Outcome.TheVariants as outcome
-use Rattle.tko_links.specs.declared.links.NoMemory.{NoMemory}
+use Rattle.tko_links.specs.declared.links.ExchangeNoMemory.{ExchangeNoMemory}
 
 -- how often a server can be sent to, and how often it can be probed
 abbrev pub most_sends : ℕ
@@ -25,7 +25,7 @@ is_sent outcome.Aborted = true
 is_sent outcome.Spent = false
 
 -- whether a call counted a send or a probe; an error for lack of memory says it itself
-abbrev pub is_counted : Result Outcome NoMemory → Bool
+abbrev pub is_counted : Result Outcome ExchangeNoMemory → Bool
 is_counted (Ok came) = is_sent came
 is_counted (Err fault) = fault.sent
 
@@ -34,20 +34,20 @@ abbrev pub part_of : Bool → ℕ → ℕ → ℕ
 part_of sent to server = if sent && (to == server) then 1 else 0
 
 -- what came of a request, if the call returned it
-abbrev pub outcome_in : Result Outcome NoMemory → Option Outcome
+abbrev pub outcome_in : Result Outcome ExchangeNoMemory → Option Outcome
 outcome_in (Ok came) = Some came
 outcome_in (Err fault) = None
 
 -- a call that counted a send is one item, and one that counted none changed nothing
-abbrev pub Exchanged : {L : Type 0} → (L → LinksItem → L → Type 0) → L → ℕ → Request
-    → Result Outcome NoMemory → L → Type 0
-Exchanged exchanges old server request result new =
+abbrev pub HasExchanged : {L : Type 0} → (L → LinksItem → L → Type 0) → L → ℕ → Request
+    → Result Outcome ExchangeNoMemory → L → Type 0
+HasExchanged exchanges old server request result new =
     MatchBool (is_counted result)
     (exchanges old (Sent server request (outcome_in result)) new) (new ≡ old)
 
 -- a call that counted a probe is one item, and one that counted none changed nothing
 abbrev pub WasProbed : {L : Type 0} → (L → LinksItem → L → Type 0) → L → ℕ
-    → Result Outcome NoMemory → L → Type 0
+    → Result Outcome ExchangeNoMemory → L → Type 0
 WasProbed exchanges old server result new =
     MatchBool (is_counted result)
     (exchanges old (Probed server (outcome_in result)) new) (new ≡ old)

@@ -23,17 +23,17 @@ pub record ScriptedState : Type 0 where
   pub requests : List (List ℕ)
 
 -- what comes of an answer's bytes, by what a reading of them gives; nothing where memory ran out
-abbrev pub came_of : Result (Response × ℕ) ReadFault → Option Outcome
-came_of (Ok found) = Some (outcome.Reply found.0)
-came_of (Err fault.Short) = Some outcome.Broken
-came_of (Err fault.Unreadable) = Some outcome.Broken
-came_of (Err fault.Memory) = None
+abbrev pub came_of_bytes : Result (Response × ℕ) ReadFault → Option Outcome
+came_of_bytes (Ok found) = Some (outcome.Reply found.0)
+came_of_bytes (Err fault.Short) = Some outcome.Broken
+came_of_bytes (Err fault.Unreadable) = Some outcome.Broken
+came_of_bytes (Err fault.Memory) = None
 
 -- that comes of a request that these bytes answer
-abbrev pub Answers : List ℕ → Request → Option Outcome → Type 0
-Answers bytes request came =
+abbrev pub ComesOfBytes : List ℕ → Request → Option Outcome → Type 0
+ComesOfBytes bytes request came =
     (read : Result (Response × ℕ) ReadFault)
-    × ReadsResponse request bytes read × (came_of read ≡ came)
+    × ReadsResponse request bytes read × (came_of_bytes read ≡ came)
 
 -- a value of this key with flags 0 and this text of a cas number, and the line `END`
 abbrev pub hit_text : List ℕ → List ℕ → List ℕ → List ℕ
@@ -43,7 +43,7 @@ hit_text key cas text =
 
 -- that comes of a retrieval of these keys that such a value of its one key answers
 abbrev pub HitsKeys : List (List ℕ) → List ℕ → List ℕ → Request → Option Outcome → Type 0
-HitsKeys (key ∷ []) cas text request came = Answers (hit_text key cas text) request came
+HitsKeys (key ∷ []) cas text request came = ComesOfBytes (hit_text key cas text) request came
 HitsKeys _ cas text request came = came ≡ Some outcome.Broken
 
 -- that comes of a request that a value of its key answers; only `gets` gets a cas number, and a
@@ -54,66 +54,66 @@ Hits text (request.Gets keys) came = HitsKeys keys (codes " 1") text (request.Ge
 Hits text _ came = came ≡ Some outcome.Broken
 
 -- this script gives that to a request
-abbrev pub Gives : Script → Request → Option Outcome → Type 0
-Gives script.Refused request came = came ≡ Some outcome.Refused
-Gives script.Timeout request came = came ≡ Some outcome.Timeout
-Gives script.Broken request came = came ≡ Some outcome.Broken
-Gives (script.Bytes bytes) request came = Answers bytes.items request came
-Gives (script.Hit text) request came = Hits text.items request came
+abbrev pub ScriptGives : Script → Request → Option Outcome → Type 0
+ScriptGives script.Refused request came = came ≡ Some outcome.Refused
+ScriptGives script.Timeout request came = came ≡ Some outcome.Timeout
+ScriptGives script.Broken request came = came ≡ Some outcome.Broken
+ScriptGives (script.Bytes bytes) request came = ComesOfBytes bytes.items request came
+ScriptGives (script.Hit text) request came = Hits text.items request came
 
 -- the next script gives it; a used-up list refuses
 abbrev pub NextGives : Option Script → Request → Option Outcome → Type 0
 NextGives None request came = came ≡ Some outcome.Refused
-NextGives (Some next) request came = Gives next request came
+NextGives (Some next) request came = ScriptGives next request came
 
 -- one more at this server
-abbrev pub raised : List ℕ → ℕ → List ℕ
-raised counts server = slice_set counts server (slice_index counts server + 1)
+abbrev pub raised_at : List ℕ → ℕ → List ℕ
+raised_at counts server = slice_set counts server (slice_index counts server + 1)
 
 -- a request was counted at its server, and its bytes are kept
-abbrev pub counted : ScriptedState → ℕ → Request → ScriptedState
-counted old server request =
+abbrev pub counted_send : ScriptedState → ℕ → Request → ScriptedState
+counted_send old server request =
     record old {
-      sends = raised old.sends server;
+      sends = raised_at old.sends server;
       requests = old.requests ++ request_text request ∷ [];
     }
 
 -- what came of an item is what the next script gives; a probe asks for the version
-abbrev pub IsGiven : Option Script → LinksItem → Type 0
-IsGiven next (Sent server request came) = NextGives next request came
-IsGiven next (Probed server came) = NextGives next request.Version came
+abbrev pub IsNextGiven : Option Script → LinksItem → Type 0
+IsNextGiven next (Sent server request came) = NextGives next request came
+IsNextGiven next (Probed server came) = NextGives next request.Version came
 
 -- the bytes of the request that was sent in an item; those of a probe are not kept
-abbrev pub texts_in : LinksItem → List (List ℕ)
-texts_in (Sent server request came) = request_text request ∷ []
-texts_in (Probed server came) = []
+abbrev pub request_texts_in : LinksItem → List (List ℕ)
+request_texts_in (Sent server request came) = request_text request ∷ []
+request_texts_in (Probed server came) = []
 
 -- how often each server was sent to after an item
 abbrev pub sends_after : List ℕ → LinksItem → List ℕ
-sends_after sends (Sent server request came) = raised sends server
+sends_after sends (Sent server request came) = raised_at sends server
 sends_after sends (Probed server came) = sends
 
 -- how often each server was probed after an item
 abbrev pub probes_after : List ℕ → LinksItem → List ℕ
 probes_after probes (Sent server request came) = probes
-probes_after probes (Probed server came) = raised probes server
+probes_after probes (Probed server came) = raised_at probes server
 
 -- one item: it uses the next script, which gives what came, it is counted, and the bytes of a
 -- request are kept
 pub record IsPlayed (old : ScriptedState) (it : LinksItem) (new : ScriptedState) : Type 0 where
-  pub outcome : IsGiven (slice_get old.scripts 0) it
+  pub outcome : IsNextGiven (slice_get old.scripts 0) it
   pub state : new ≡ record {
     scripts = drop 1 old.scripts;
     sends = sends_after old.sends it;
     probes = probes_after old.probes it;
-    requests = old.requests ++ texts_in it;
+    requests = old.requests ++ request_texts_in it;
   }
 
 -- these scripts, one after another, give what came of these items
 abbrev pub GiveInOrder : List Script → List LinksItem → Type 0
 GiveInOrder scripts [] = Unit {0}
 GiveInOrder scripts (it ∷ items) =
-    IsGiven (slice_get scripts 0) it × GiveInOrder (drop 1 scripts) items
+    IsNextGiven (slice_get scripts 0) it × GiveInOrder (drop 1 scripts) items
 
 -- how often each server was sent to after these items
 abbrev pub sends_after_all : List ℕ → List LinksItem → List ℕ
@@ -127,10 +127,10 @@ probes_after_all probes (it ∷ items) = probes_after_all (probes_after probes i
 
 -- over these items the scripts are used in order, each send and each probe is counted, and the
 -- bytes of each request are kept in order
-pub record IsReplay (old : ScriptedState) (items : List LinksItem) (new : ScriptedState)
+pub record IsScriptReplay (old : ScriptedState) (items : List LinksItem) (new : ScriptedState)
     : Type 0 where
   pub outcomes : GiveInOrder old.scripts items
   pub scripts : new.scripts ≡ drop (length items) old.scripts
   pub sends : new.sends ≡ sends_after_all old.sends items
   pub probes : new.probes ≡ probes_after_all old.probes items
-  pub requests : new.requests ≡ old.requests ++ flat_map texts_in items
+  pub requests : new.requests ≡ old.requests ++ flat_map request_texts_in items

@@ -26,14 +26,14 @@ is_ok (Ok done) = true
 is_ok (Err fault) = false
 
 -- how many failures the result of a connect or a read is
-abbrev pub faults_in : {A : Type 0} → Result A WireFault → ℕ
-faults_in (Ok done) = 0
-faults_in (Err fault) = 1
+abbrev pub wire_faults_in : {A : Type 0} → Result A WireFault → ℕ
+wire_faults_in (Ok done) = 0
+wire_faults_in (Err fault) = 1
 
 -- how many failures the result of a write of this piece is
-abbrev pub refusals_in : List ℕ → Result ℕ WireFault → ℕ
-refusals_in piece (Ok count) = if nat_lt 0 (length piece) && (count == 0) then 1 else 0
-refusals_in piece (Err fault) = 1
+abbrev pub wire_refusals_in : List ℕ → Result ℕ WireFault → ℕ
+wire_refusals_in piece (Ok count) = if nat_lt 0 (length piece) && (count == 0) then 1 else 0
+wire_refusals_in piece (Err fault) = 1
 
 -- the item of a connect
 abbrev pub connect_item : ℕ → Result Unit WireFault → WireItem

@@ -1,6 +1,6 @@
 //! Counts of what failed, which contracts see as whole numbers.
 ghost use Rattle.std.specs.Prelude.{◌≡◌, ◌+◌};
-ghost use Rattle.tko_links.specs.Wires.{faults_in, refusals_in};
+ghost use Rattle.tko_links.specs.Wires.{wire_faults_in, wire_refusals_in};
 
 use crate::wire::WireFault;
 use std::sync::Wait;
@@ -13,7 +13,7 @@ pub fn counted<R: Wait, T>(
     called: Result<T, WireFault>,
 ) -> Result<T, WireFault>
     ensures same { result ≡ called }
-    ensures failures { failures.new ≡ failures.old + faults_in called }
+    ensures failures { failures.new ≡ failures.old + wire_faults_in called }
 {
     match called {
         Ok(done) => Ok(done),
@@ -32,7 +32,7 @@ pub fn counted_write<R: Wait>(
     written: Result<usize, WireFault>,
 ) -> Result<usize, WireFault>
     ensures same { result ≡ written }
-    ensures failures { failures.new ≡ failures.old + refusals_in piece.now written }
+    ensures failures { failures.new ≡ failures.old + wire_refusals_in piece.now written }
 {
     match written {
         Ok(0) if !piece.is_empty() => {

@@ -1,15 +1,15 @@
 //! One exchange over a wire.
 ghost use Rattle.std.specs.Prelude.{◌≡◌, ◌<◌, true, IfErr, OnOk};
 ghost use Rattle.tko_text.specs.Requests.{request_text};
-ghost use Rattle.tko_links.specs.ExchangeParts.{Opens, Receives, Sends, SendsAndReceives, returned, stays_after};
+ghost use Rattle.tko_links.specs.ExchangeParts.{Opens, Receives, SendsAndReceives, SendsPart, returned, stays_after};
 ghost use Rattle.tko_links.specs.Incoming.{arrival, nothing_yet};
-ghost use Rattle.tko_links.specs.Exchanges.{IsExchange, IsPart, closing_of};
+ghost use Rattle.tko_links.specs.Exchanges.{IsPart, IsWireExchange, closing_of};
 ghost use Rattle.tko_links.specs.Links.{is_counted, outcome_in};
 ghost use Rattle.tko_links.specs.Wires.{is_ok};
 
 use crate::fault::LinkFault;
-use crate::incoming::Incoming;
-use crate::links::{NoMemory, Outcome};
+use crate::incoming::IncomingResponse;
+use crate::links::{ExchangeNoMemory, Outcome};
 use crate::wire::{Wire, WireFault};
 use std::alloc::Global;
 use tko_io::IoRuntime;
@@ -24,9 +24,9 @@ pub(crate) fn exchange_over<R: IoRuntime, W: Wire>(
     buffers: &mut Buffers,
     server: usize,
     request: &Request,
-) -> Result<Outcome, NoMemory>
+) -> Result<Outcome, ExchangeNoMemory>
     requires { server < W.servers wire.old }
-    ensures record { IsExchange W.servers W.is_connected W.failures W.steps server request.now
+    ensures record { IsWireExchange W.servers W.is_connected W.failures W.steps server request.now
         wire.old (outcome_in result) wire.new }
     ensures counted { is_counted result ≡ true }
 {
@@ -44,7 +44,7 @@ fn close<W: Wire>(
     wire: &mut W,
     server: usize,
     received: Result<(Response, bool), LinkFault>,
-) -> Result<Outcome, NoMemory>
+) -> Result<Outcome, ExchangeNoMemory>
     requires within { server < W.servers wire.old }
     requires connected { W.is_connected wire.old server ≡ true }
     ensures closes { IsPart W.servers W.is_connected W.failures W.steps server wire.old
@@ -110,7 +110,7 @@ fn send<R: IoRuntime, W: Wire>(
 ) -> Result<(), LinkFault>
     requires within { server < W.servers wire.old }
     requires connected { W.is_connected wire.old server ≡ true }
-    ensures { Sends W.servers W.is_connected W.failures W.steps server text.now wire.old result
+    ensures { SendsPart W.servers W.is_connected W.failures W.steps server text.now wire.old result
         wire.new }
 {
     let mut at = 0;
@@ -129,7 +129,7 @@ fn receive<R: IoRuntime, W: Wire>(
     rt: &R,
     alloc: Global,
     wire: &mut W,
-    incoming: &mut Incoming,
+    incoming: &mut IncomingResponse,
     server: usize,
     request: &Request,
 ) -> Result<(Response, bool), LinkFault>
@@ -158,7 +158,7 @@ fn receive<R: IoRuntime, W: Wire>(
 pub(crate) struct Buffers {
     /// The printed request.
     text: Vec<u8>,
-    incoming: Incoming,
+    incoming: IncomingResponse,
 }
 
 /// The greatest capacity that an empty buffer keeps.
@@ -168,7 +168,7 @@ impl Buffers {
     pub(crate) fn new(alloc: Global) -> Buffers {
         Buffers {
             text: Vec::new(alloc),
-            incoming: Incoming::new(alloc),
+            incoming: IncomingResponse::new(alloc),
         }
     }
 

@@ -1,8 +1,8 @@
 //! Why an exchange has no response.
 ghost use Rattle.std.specs.Prelude.{◌≡◌};
-ghost use Rattle.tko_links.specs.Faults.{fault_of, outcome_of};
+ghost use Rattle.tko_links.specs.Faults.{exchange_outcome, link_fault_of};
 
-use crate::links::{NoMemory, Outcome};
+use crate::links::{ExchangeNoMemory, Outcome};
 use crate::wire::WireFault;
 
 /// Why an exchange that has a connection has no response.
@@ -16,7 +16,7 @@ pub(crate) enum LinkFault {
 impl LinkFault {
     /// What a failed read or write is to an exchange.
     pub(crate) fn of(fault: WireFault) -> LinkFault
-        ensures { result ≡ fault_of fault }
+        ensures { result ≡ link_fault_of fault }
     {
         match fault {
             WireFault::TimedOut => LinkFault::TimedOut,
@@ -25,13 +25,13 @@ impl LinkFault {
     }
 
     /// What the exchange returns, which was counted.
-    pub(crate) fn outcome(self) -> Result<Outcome, NoMemory>
-        ensures { result ≡ outcome_of self }
+    pub(crate) fn outcome(self) -> Result<Outcome, ExchangeNoMemory>
+        ensures { result ≡ exchange_outcome self }
     {
         match self {
             LinkFault::TimedOut => Ok(Outcome::Timeout),
             LinkFault::Broken => Ok(Outcome::Broken),
-            LinkFault::Memory => Err(NoMemory { sent: true }),
+            LinkFault::Memory => Err(ExchangeNoMemory { sent: true }),
         }
     }
 }

@@ -2,7 +2,7 @@
 ghost use Rattle.std.specs.Prelude.{◌≡◌, ◌<◌, ◌≤◌, ◌⊎◌, ◌-◌, [], None, Ok, drop, length};
 ghost use Rattle.std.specs.Bool.{OnFalse};
 ghost use Rattle.tko_bytes.specs.Lines.{HasNoEnd};
-ghost use Rattle.tko_links.specs.Incoming.{HasCome, Judges, arrival, nothing_yet};
+ghost use Rattle.tko_links.specs.Incoming.{HasPieceCome, JudgesBytes, arrival, nothing_yet};
 
 use crate::fault::LinkFault;
 use crate::read_buffer::ReadBuffer;
@@ -18,7 +18,7 @@ const UNSEEN_LIMIT: usize = 65_536;
 /// announced, and not where the last piece has no LF, except once every 65,536 bytes. So the time
 /// is linear, however small the pieces are.
 #[derive(Debug, Drop)]
-pub(crate) struct Incoming {
+pub(crate) struct IncomingResponse {
     /// What has come.
     pub(crate) buffer: ReadBuffer,
     /// How many bytes there were at the last look.
@@ -27,9 +27,9 @@ pub(crate) struct Incoming {
     pub(crate) least: usize,
 }
 
-impl Incoming {
-    pub(crate) fn new(alloc: Global) -> Incoming {
-        Incoming {
+impl IncomingResponse {
+    pub(crate) fn new(alloc: Global) -> IncomingResponse {
+        IncomingResponse {
             buffer: ReadBuffer::new(alloc),
             looked: 0,
             least: 0,
@@ -60,9 +60,9 @@ impl Incoming {
         request: &Request,
         count: usize,
     ) -> Result<Option<(Response, bool)>, LinkFault>
-        requires come { HasCome request.now (arrival self.old) count }
+        requires come { HasPieceCome request.now (arrival self.old) count }
         requires looked { self.old.looked ≤ length self.old.buffer }
-        ensures judges { Judges request.now self.old.buffer count (arrival self.new) result }
+        ensures judges { JudgesBytes request.now self.old.buffer count (arrival self.new) result }
         ensures kept { result ≡ Ok None → self.new.buffer ≡ self.old.buffer }
         ensures looked { result ≡ Ok None → self.new.looked ≤ length self.new.buffer }
     {

@@ -2,7 +2,7 @@
 ghost use Rattle.std.specs.Prelude.{List};
 ghost use Rattle.tko_model.specs.Records.{Gains};
 ghost use Rattle.tko_links.specs.Links.{LinksItem};
-ghost use Rattle.tko_links.specs.Scripted.{IsReplay, ScriptedState};
+ghost use Rattle.tko_links.specs.Scripted.{IsScriptReplay, ScriptedState};
 
 use crate::links::Links;
 use crate::scripted::Scripted;
@@ -11,5 +11,5 @@ use crate::scripted::Scripted;
 /// bytes of each request.
 pub fn scripted_replays()
     ensures { (old new : ScriptedState) (items : List LinksItem)
-        → Gains ⟦<Scripted as Links>⟧.exchanges old items new → IsReplay old items new }
+        → Gains ⟦<Scripted as Links>⟧.exchanges old items new → IsScriptReplay old items new }
 {}

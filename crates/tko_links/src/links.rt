@@ -1,6 +1,6 @@
 //! What links to the servers do, whatever connects them.
 ghost use Rattle.std.specs.Prelude.{◌≡◌, ◌+◌, ◌<◌, ◌↔◌, ℕ};
-ghost use Rattle.tko_links.specs.Links.{Exchanged, WasProbed, is_counted, most_sends, part_of};
+ghost use Rattle.tko_links.specs.Links.{HasExchanged, WasProbed, is_counted, most_sends, part_of};
 
 use tko_io::IoRuntime;
 use tko_model::{Clear, Duty};
@@ -28,7 +28,7 @@ pub enum Outcome {
 /// No memory was there for an exchange. It says whether the server's count of sends, or of probes,
 /// rose.
 #[derive(Clone, Copy, Debug, PartialEq, Eq)]
-pub struct NoMemory {
+pub struct ExchangeNoMemory {
     pub sent: bool,
 }
 
@@ -57,9 +57,9 @@ pub trait Links {
         rt: &R,
         clear: Clear,
         request: &Request,
-    ) -> Result<Outcome, NoMemory>
+    ) -> Result<Outcome, ExchangeNoMemory>
         requires { clear < servers self.old }
-        ensures record { Exchanged exchanges self.old clear request.now result self.new }
+        ensures record { HasExchanged exchanges self.old clear request.now result self.new }
         ensures spent { (result ≡ Ok Outcome.Spent) ↔ (sent self.old clear ≡ most_sends) }
         ensures sends { (server : ℕ) → sent self.new server
             ≡ sent self.old server + part_of (is_counted result) clear server }
@@ -67,7 +67,7 @@ pub trait Links {
         ensures servers { servers self.new ≡ servers self.old };
 
     /// Asks the server that the right names for its version, and waits for what comes of it.
-    fn probe<R: IoRuntime>(&mut self, rt: &R, duty: Duty) -> Result<Outcome, NoMemory>
+    fn probe<R: IoRuntime>(&mut self, rt: &R, duty: Duty) -> Result<Outcome, ExchangeNoMemory>
         requires { duty < servers self.old }
         ensures record { WasProbed exchanges self.old duty result self.new }
         ensures spent { (result ≡ Ok Outcome.Spent) ↔ (probed self.old duty ≡ most_sends) }

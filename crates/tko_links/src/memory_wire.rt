@@ -3,7 +3,7 @@ ghost use Rattle.std.specs.Prelude.{◌≡◌, ◌<◌, ◌≤◌, ◌++◌, ◌
 ghost use Rattle.tko_links.specs.MemoryWires.{IsMemoryStep};
 
 use crate::counting::{counted, counted_write};
-use crate::peer::{Peer, PeerStep};
+use crate::peer::{PeerStep, PlayedServer};
 use crate::wire::{Wire, WireFault};
 use std::alloc::{AllocError, Global};
 use std::marker::Model;
@@ -52,7 +52,7 @@ impl Inbox {
 #[derive(Drop)]
 pub(crate) struct MemoryWire {
     alloc: Global,
-    peers: Vec<Peer>,
+    peers: Vec<PlayedServer>,
     connected: Vec<bool>,
     written: Vec<Inbox>,
     failures: u64,
@@ -103,7 +103,7 @@ impl MemoryWire {
             mut written,
             failures,
         } = self;
-        peers.push(Peer::new(steps))?;
+        peers.push(PlayedServer::new(steps))?;
         connected.push(false)?;
         written.push(Inbox::new(alloc))?;
         Ok(MemoryWire {
@@ -127,7 +127,7 @@ impl MemoryWire {
 }
 
 /// What a server takes of a piece, which is kept.
-fn deliver(peer: &mut Peer, inbox: &mut Inbox, piece: &[u8]) -> Result<usize, WireFault>
+fn deliver(peer: &mut PlayedServer, inbox: &mut Inbox, piece: &[u8]) -> Result<usize, WireFault>
     ensures count { IfOk result (λ count. count ≤ length piece.now) }
     ensures ok { IfOk result (λ count. inbox.new ≡ inbox.old ++ take count piece.now) }
     ensures err { OnErr result (inbox.new ≡ inbox.old) }

@@ -29,16 +29,16 @@ pub(crate) enum PeerStep {
 /// The list of what a server does, and how far it was played. Once it is used up, the server
 /// refuses connections and does not answer.
 #[derive(Drop)]
-pub(crate) struct Peer {
+pub(crate) struct PlayedServer {
     steps: Vec<PeerStep>,
     next: usize,
     /// How many bytes of the next step have come.
     given: usize,
 }
 
-impl Peer {
-    pub(crate) fn new(steps: Vec<PeerStep>) -> Peer {
-        Peer {
+impl PlayedServer {
+    pub(crate) fn new(steps: Vec<PeerStep>) -> PlayedServer {
+        PlayedServer {
             steps,
             next: 0,
             given: 0,

@@ -1,9 +1,9 @@
 //! Links in memory, which play a list of scripts.
 ghost use Rattle.std.specs.Prelude.{◌≡◌, ◌<◌, ◌+◌, ◌↔◌, ℕ, [], true, false, IfOk, IfErr, OnErr, OnOk, length, replicate, slice_index};
-ghost use Rattle.tko_links.specs.Links.{Exchanged, WasProbed, is_counted, most_sends, outcome_in, part_of};
-ghost use Rattle.tko_links.specs.Scripted.{Answers, Hits, HitsKeys, IsPlayed, hit_text};
+ghost use Rattle.tko_links.specs.Links.{HasExchanged, WasProbed, is_counted, most_sends, outcome_in, part_of};
+ghost use Rattle.tko_links.specs.Scripted.{ComesOfBytes, Hits, HitsKeys, IsPlayed, hit_text};
 
-use crate::links::{Links, NoMemory, Outcome};
+use crate::links::{ExchangeNoMemory, Links, Outcome};
 use itoa::Buffer;
 use std::alloc::Global;
 use std::marker::Model;
@@ -78,11 +78,11 @@ impl Model for Scripted {
 }
 
 impl Script {
-    ghost use Rattle.tko_links.specs.Scripted.{Gives};
+    ghost use Rattle.tko_links.specs.Scripted.{ScriptGives};
 
     /// What it gives to a request.
-    fn outcome(&self, alloc: Global, request: &Request) -> Result<Outcome, NoMemory>
-        ensures came { Gives self.now request.now (outcome_in result) }
+    fn outcome(&self, alloc: Global, request: &Request) -> Result<Outcome, ExchangeNoMemory>
+        ensures came { ScriptGives self.now request.now (outcome_in result) }
         ensures sent { IfErr result (λ fault. fault ≡ record { sent = true }) }
         ensures aborted { ¬ (result ≡ Ok Outcome.Aborted) }
     {
@@ -97,20 +97,20 @@ impl Script {
 }
 
 /// What comes of a request that these bytes answer.
-fn read_answer(alloc: Global, request: &Request, bytes: &[u8]) -> Result<Outcome, NoMemory>
-    ensures came { Answers bytes.now request.now (outcome_in result) }
+fn read_answer(alloc: Global, request: &Request, bytes: &[u8]) -> Result<Outcome, ExchangeNoMemory>
+    ensures came { ComesOfBytes bytes.now request.now (outcome_in result) }
     ensures sent { IfErr result (λ fault. fault ≡ record { sent = true }) }
     ensures aborted { ¬ (result ≡ Ok Outcome.Aborted) }
 {
     match Response::read(alloc, request, bytes) {
         Ok((response, _)) => Ok(Outcome::Reply(response)),
         Err(ReadFault::Short | ReadFault::Unreadable) => Ok(Outcome::Broken),
-        Err(ReadFault::Memory) => Err(NoMemory { sent: true }),
+        Err(ReadFault::Memory) => Err(ExchangeNoMemory { sent: true }),
     }
 }
 
 /// What comes of a request that a value of its key answers.
-fn hit(alloc: Global, request: &Request, text: &[u8]) -> Result<Outcome, NoMemory>
+fn hit(alloc: Global, request: &Request, text: &[u8]) -> Result<Outcome, ExchangeNoMemory>
     ensures came { Hits text.now request.now (outcome_in result) }
     ensures sent { IfErr result (λ fault. fault ≡ record { sent = true }) }
     ensures aborted { ¬ (result ≡ Ok Outcome.Aborted) }
@@ -129,7 +129,7 @@ fn hit_of(
     keys: &[Key],
     cas: &[u8],
     text: &[u8],
-) -> Result<Outcome, NoMemory>
+) -> Result<Outcome, ExchangeNoMemory>
     ensures came { HitsKeys keys.now cas.now text.now request.now (outcome_in result) }
     ensures sent { IfErr result (λ fault. fault ≡ record { sent = true }) }
     ensures aborted { ¬ (result ≡ Ok Outcome.Aborted) }
@@ -147,13 +147,14 @@ fn hit_key(
     key: &Key,
     cas: &[u8],
     text: &[u8],
-) -> Result<Outcome, NoMemory>
-    ensures came { Answers (hit_text key.now cas.now text.now) request.now (outcome_in result) }
+) -> Result<Outcome, ExchangeNoMemory>
+    ensures came { ComesOfBytes (hit_text key.now cas.now text.now) request.now
+        (outcome_in result) }
     ensures sent { IfErr result (λ fault. fault ≡ record { sent = true }) }
     ensures aborted { ¬ (result ≡ Ok Outcome.Aborted) }
 {
     let Ok(bytes) = hit_text(alloc, key, cas, text) else {
-        return Err(NoMemory { sent: true });
+        return Err(ExchangeNoMemory { sent: true });
     };
     read_answer(alloc, request, bytes.as_slice())
 }
@@ -188,7 +189,7 @@ fn hit_text<'a>(
 
 impl Scripted {
     ghost use Rattle.std.specs.Prelude.{drop, slice_get};
-    ghost use Rattle.tko_links.specs.Scripted.{NextGives, counted};
+    ghost use Rattle.tko_links.specs.Scripted.{NextGives, counted_send};
 
     /// Links to `servers` servers, none of which was sent to or probed.
     pub fn new(
@@ -225,25 +226,25 @@ impl Scripted {
     }
 
     /// Keeps a request's bytes and counts it.
-    fn count(&mut self, server: usize, request: &Request) -> Result<(), NoMemory>
+    fn count(&mut self, server: usize, request: &Request) -> Result<(), ExchangeNoMemory>
         requires server { server < length self.old.sends }
         requires few { slice_index self.old.sends server < most_sends }
-        ensures ok { OnOk result (self.new ≡ counted self.old server request.now) }
+        ensures ok { OnOk result (self.new ≡ counted_send self.old server request.now) }
         ensures err { OnErr result (self.new ≡ self.old) }
         ensures unsent { IfErr result (λ fault. fault ≡ record { sent = false }) }
     {
         let bytes = request
             .write(self.alloc)
-            .map_err(|_| NoMemory { sent: false })?;
+            .map_err(|_| ExchangeNoMemory { sent: false })?;
         self.requests
             .push(RequestText { bytes })
-            .map_err(|_| NoMemory { sent: false })?;
+            .map_err(|_| ExchangeNoMemory { sent: false })?;
         self.sends[server] += 1;
         Ok(())
     }
 
     /// Plays the next script.
-    fn play(&mut self, request: &Request) -> Result<Outcome, NoMemory>
+    fn play(&mut self, request: &Request) -> Result<Outcome, ExchangeNoMemory>
         ensures left { self.new ≡ record self.old { scripts = drop 1 self.old.scripts } }
         ensures came { NextGives (slice_get self.old.scripts 0) request.now (outcome_in result) }
         ensures sent { IfErr result (λ fault. fault ≡ record { sent = true }) }
@@ -272,9 +273,9 @@ impl Links for Scripted {
         _rt: &R,
         clear: Clear,
         request: &Request,
-    ) -> Result<Outcome, NoMemory>
+    ) -> Result<Outcome, ExchangeNoMemory>
         requires { clear < length self.old.sends }
-        ensures record { Exchanged IsPlayed self.old clear request.now result self.new }
+        ensures record { HasExchanged IsPlayed self.old clear request.now result self.new }
         ensures spent { (result ≡ Ok Outcome.Spent)
             ↔ (slice_index self.old.sends clear ≡ most_sends) }
         ensures sends { (server : ℕ) → slice_index self.new.sends server
@@ -292,7 +293,7 @@ impl Links for Scripted {
         self.play(request)
     }
 
-    fn probe<R: IoRuntime>(&mut self, _rt: &R, duty: Duty) -> Result<Outcome, NoMemory>
+    fn probe<R: IoRuntime>(&mut self, _rt: &R, duty: Duty) -> Result<Outcome, ExchangeNoMemory>
         requires { duty < length self.old.sends }
         ensures record { WasProbed IsPlayed self.old duty result self.new }
         ensures spent { (result ≡ Ok Outcome.Spent)

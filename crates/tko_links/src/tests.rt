@@ -1,7 +1,7 @@
 //! Scripts, the outcomes that they give, and what is kept of each send.
 ghost use Rattle.std.specs.Prelude.{◌≡◌, length};
 
-use crate::{Links, NoMemory, Outcome, Script, Scripted};
+use crate::{ExchangeNoMemory, Links, Outcome, Script, Scripted};
 use std::alloc::{AllocError, Global};
 use std::net::{Net, TcpStream};
 use std::sync::Wait;
@@ -19,7 +19,7 @@ pub(crate) fn get_a(alloc: Global) -> Result<Request, Fail> {
 }
 
 /// The word for what came of a call.
-pub(crate) fn word_of(came: &Result<Outcome, NoMemory>) -> &'static str {
+pub(crate) fn word_of(came: &Result<Outcome, ExchangeNoMemory>) -> &'static str {
     match came {
         Ok(Outcome::Reply(Response::Values(Some(_)))) => "value",
         Ok(Outcome::Reply(Response::Values(None))) => "miss",
@@ -38,7 +38,7 @@ fn send<R: Wait + Net<Stream = TcpStream> + Clock>(
     rt: &R,
     links: &mut Scripted,
     request: &Request,
-) -> Result<Outcome, NoMemory>
+) -> Result<Outcome, ExchangeNoMemory>
     requires { length links.old.sends ≡ 2 }
     ensures { length links.new.sends ≡ 2 }
 {
@@ -52,7 +52,7 @@ fn send<R: Wait + Net<Stream = TcpStream> + Clock>(
 fn probe<R: Wait + Net<Stream = TcpStream> + Clock>(
     rt: &R,
     links: &mut Scripted,
-) -> Result<Outcome, NoMemory>
+) -> Result<Outcome, ExchangeNoMemory>
     requires { length links.old.sends ≡ 2 }
     ensures { length links.new.sends ≡ 2 }
 {

@@ -1,6 +1,6 @@
 //! The connections to the servers, one each, and their bytes.
 ghost use Rattle.std.specs.Prelude.{◌≡◌, ◌+◌, ◌<◌, ◌≤◌, true, false, IfOk, length};
-ghost use Rattle.tko_links.specs.Wires.{AllSame, OthersSame, Checked, Limited, Shut, connect_item, faults_in, is_ok, read_item, refusals_in, write_item};
+ghost use Rattle.tko_links.specs.Wires.{AllSame, OthersSame, Checked, Limited, Shut, connect_item, wire_faults_in, is_ok, read_item, wire_refusals_in, write_item};
 
 use tko_io::IoRuntime;
 
@@ -38,7 +38,7 @@ pub trait Wire {
         ensures record { steps self.old (connect_item server result) self.new }
         ensures connected { is_connected self.new server ≡ is_ok result }
         ensures others { OthersSame server (is_connected self.old) (is_connected self.new) }
-        ensures failures { failures self.new ≡ failures self.old + faults_in result }
+        ensures failures { failures self.new ≡ failures self.old + wire_faults_in result }
         ensures servers { servers self.new ≡ servers self.old };
 
     /// Takes bytes from the front of the piece, and returns how many. To take none of a piece that
@@ -54,7 +54,8 @@ pub trait Wire {
         ensures count { IfOk result (λ count. count ≤ length bytes.now) }
         ensures record { steps self.old (write_item server bytes.now result) self.new }
         ensures kept { AllSame (is_connected self.old) (is_connected self.new) }
-        ensures failures { failures self.new ≡ failures self.old + refusals_in bytes.now result }
+        ensures failures { failures self.new
+            ≡ failures self.old + wire_refusals_in bytes.now result }
         ensures servers { servers self.new ≡ servers self.old };
 
     /// Puts the next bytes at the front of the buffer, and returns how many. 0 is the end of input.
@@ -70,7 +71,7 @@ pub trait Wire {
         ensures count { IfOk result (λ count. count ≤ length buffer.new) }
         ensures record { steps self.old (read_item server buffer.new result) self.new }
         ensures kept { AllSame (is_connected self.old) (is_connected self.new) }
-        ensures failures { failures self.new ≡ failures self.old + faults_in result }
+        ensures failures { failures self.new ≡ failures self.old + wire_faults_in result }
         ensures servers { servers self.new ≡ servers self.old };
 
     /// Gives up the connection, and what has come on it.

@@ -1,11 +1,11 @@
 //! Links over a wire.
 ghost use Rattle.std.specs.Prelude.{◌≡◌, ◌<◌, ◌+◌, ◌↔◌, ℕ, true, IfOk, length, replicate, slice_index};
-ghost use Rattle.tko_links.specs.Exchanges.{IsExchange, IsProbing};
-ghost use Rattle.tko_links.specs.Links.{Exchanged, WasProbed, is_counted, most_sends, outcome_in, part_of};
+ghost use Rattle.tko_links.specs.Exchanges.{IsProbing, IsWireExchange};
+ghost use Rattle.tko_links.specs.Links.{HasExchanged, WasProbed, is_counted, most_sends, outcome_in, part_of};
 ghost use Rattle.tko_links.specs.Wired.{IsWired};
 
 use crate::exchanging::{Buffers, exchange_over};
-use crate::links::{Links, NoMemory, Outcome};
+use crate::links::{ExchangeNoMemory, Links, Outcome};
 use crate::wire::Wire;
 use std::alloc::Global;
 use std::marker::Model;
@@ -76,10 +76,10 @@ impl<W: Wire> Wired<W> {
         rt: &R,
         server: usize,
         request: &Request,
-    ) -> Result<Outcome, NoMemory>
+    ) -> Result<Outcome, ExchangeNoMemory>
         requires { server < W.servers self.old.wire }
-        ensures exchange { IsExchange W.servers W.is_connected W.failures W.steps server request.now
-            self.old.wire (outcome_in result) self.new.wire }
+        ensures exchange { IsWireExchange W.servers W.is_connected W.failures W.steps
+            server request.now self.old.wire (outcome_in result) self.new.wire }
         ensures counts { self.new ≡ record self.old { wire = self.new.wire } }
         ensures counted { is_counted result ≡ true }
         ensures aborted { ¬ (result ≡ Ok Outcome.Aborted) }
@@ -97,7 +97,11 @@ impl<W: Wire> Wired<W> {
     }
 
     /// Sends a probe that was counted, under the time limit of probes.
-    fn probe_counted<R: IoRuntime>(&mut self, rt: &R, server: usize) -> Result<Outcome, NoMemory>
+    fn probe_counted<R: IoRuntime>(
+        &mut self,
+        rt: &R,
+        server: usize,
+    ) -> Result<Outcome, ExchangeNoMemory>
         requires { server < W.servers self.old.wire }
         ensures probe { IsProbing W.servers W.is_connected W.failures W.steps server
             self.old.wire (outcome_in result) self.new.wire }
@@ -128,9 +132,9 @@ impl<W: Wire> Links for Wired<W> {
         rt: &R,
         clear: Clear,
         request: &Request,
-    ) -> Result<Outcome, NoMemory>
+    ) -> Result<Outcome, ExchangeNoMemory>
         requires { clear < length self.old.sends }
-        ensures record { Exchanged (IsWired W.servers W.is_connected W.failures W.steps) self.old
+        ensures record { HasExchanged (IsWired W.servers W.is_connected W.failures W.steps) self.old
             clear request.now result self.new }
         ensures spent { (result ≡ Ok Outcome.Spent)
             ↔ (slice_index self.old.sends clear ≡ most_sends) }
@@ -149,7 +153,7 @@ impl<W: Wire> Links for Wired<W> {
         self.exchange_counted(rt, server, request)
     }
 
-    fn probe<R: IoRuntime>(&mut self, rt: &R, duty: Duty) -> Result<Outcome, NoMemory>
+    fn probe<R: IoRuntime>(&mut self, rt: &R, duty: Duty) -> Result<Outcome, ExchangeNoMemory>
         requires { duty < length self.old.sends }
         ensures record { WasProbed (IsWired W.servers W.is_connected W.failures W.steps) self.old
             duty result self.new }

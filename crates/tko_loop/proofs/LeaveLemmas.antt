@@ -3,9 +3,9 @@ use Rattle.std.proofs.Common.{◌≡◌, ℕ, List, sym, ap, subst, ◌∙◌, S
 use Rattle.tko_roster.specs.Rosters.{session_at}
 use Rattle.tko_mux.specs.declared.client.Client.{Client}
 use Rattle.tko_mux.specs.Muxes.{MuxState}
-use Rattle.tko_port.specs.declared.guest.Event.TheVariants.{Leave}
+use Rattle.tko_port.specs.declared.guest.ClientEvent.TheVariants.{Leave}
 use Rattle.tko_port.specs.declared.guest.Guest.{Guest}
-use Rattle.tko_port.specs.declared.guest.Shared.{Shared}
+use Rattle.tko_port.specs.declared.guest.SharedParts.{SharedParts}
 use Rattle.tko_port.specs.declared.settling.End.{End}
 use Rattle.tko_worker.specs.declared.ends.EndCounts.{EndCounts}
 use Rattle.tko_worker.specs.Counts.{MuxAndEnds}
@@ -14,10 +14,10 @@ use Rattle.tko_loop.specs.Walks.{LeavesBy}
 
 -- once that was noted
 reached_leaves : {L T P : Type 0} (sight : Sight L T) (why : End)
-    (old mid : MuxState (Guest L T) (Shared P)) (number : ℕ)
+    (old mid : MuxState (Guest L T) (SharedParts P)) (number : ℕ)
     → HasReached sight.2 (Leave why) old number mid → LeavesBy why (session_at mid.roster.slots number)
 reached_leaves {L} {T} {P} sight why old mid number (nobody none same) =
-    subst (LeavesBy why) (sym (ap (λ (m : MuxState (Guest L T) (Shared P)).
+    subst (LeavesBy why) (sym (ap (λ (m : MuxState (Guest L T) (SharedParts P)).
     session_at m.roster.slots number) same ∙ none)) tt
 reached_leaves sight why old mid number (noted is) =
     subst (LeavesBy why) (sym is.moved.after) is.presence
@@ -35,7 +35,7 @@ listed_leaves {L} {T} {P} sight why old new number numbers now leaves (lost is (
     leaves
 listed_leaves {L} {T} {P} sight why old new number numbers now leaves
     (lost is (leaving has here (nobody none same) ends)) =
-    subst (λ (m : MuxState (Guest L T) (Shared P)). LeavesBy why (session_at m.roster.slots number))
+    subst (λ (m : MuxState (Guest L T) (SharedParts P)). LeavesBy why (session_at m.roster.slots number))
     (sym same) leaves
 listed_leaves sight why old new number numbers now leaves
     (lost is (leaving has here (noted at) ends)) =

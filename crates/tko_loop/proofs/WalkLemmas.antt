@@ -9,7 +9,7 @@ use Rattle.tko_mux.specs.declared.client.Client.{Client}
 use Rattle.tko_pace.specs.declared.client_time.ClientTime.{ClientTime}
 use Rattle.tko_port.specs.declared.guest.Guest.{Guest}
 use Rattle.tko_worker.specs.Workers.{OthersStay, Sight}
-use Rattle.tko_loop.specs.Walks.{IsLeft, IsSeenAt, IsSeenIf, progress_at, progress_of, waiting_at, waiting_below, without}
+use Rattle.tko_loop.specs.Walks.{IsBoundLeft, IsSeenAt, IsSeenIf, bound_without, client_progress, progress_at, waiting_at, waiting_below}
 use native.Mathlib.Numerals.{unary_clauses}
 
 -- the bytes of one number more
@@ -19,23 +19,23 @@ below_next : {L T : Type 0} (sight : Sight L T) (slots : List (Option (Client (G
 below_next sight slots number = simp unary_clauses refl
 
 -- what is left of a bound once more bytes wait
-left_more : (bound total waiting : ℕ) (left : Option ℕ) → IsLeft bound total left
-    → IsLeft bound (total + waiting) (without left waiting)
+left_more : (bound total waiting : ℕ) (left : Option ℕ) → IsBoundLeft bound total left
+    → IsBoundLeft bound (total + waiting) (bound_without left waiting)
 left_more bound total waiting None passed = omega arith
 left_more bound total waiting (Some left) is = elim (cases_lt left waiting) [
-  | inl less ↦ subst (IsLeft bound (total + waiting))
+  | inl less ↦ subst (IsBoundLeft bound (total + waiting))
       (sym (cond-false _ _ _ (lt-leb waiting left less))) (omega arith)
-  | inr most ↦ subst (IsLeft bound (total + waiting))
+  | inr most ↦ subst (IsBoundLeft bound (total + waiting))
       (sym (cond-true _ _ _ (le-leb waiting left most))) (omega arith)
 ]
 
 pub left_next : {L T : Type 0} (sight : Sight L T) (slots : List (Option (Client (Guest L T))))
     (number bound : ℕ) (left : Option ℕ)
-    → IsLeft bound (waiting_below sight slots number) left
-    → IsLeft bound (waiting_below sight slots (number + 1))
-    (without left (waiting_at sight slots number))
+    → IsBoundLeft bound (waiting_below sight slots number) left
+    → IsBoundLeft bound (waiting_below sight slots (number + 1))
+    (bound_without left (waiting_at sight slots number))
 left_next sight slots number bound left is =
-    subst (λ total. IsLeft bound total (without left (waiting_at sight slots number)))
+    subst (λ total. IsBoundLeft bound total (bound_without left (waiting_at sight slots number)))
     (sym (below_next sight slots number)) (left_more bound _ _ left is)
 
 -- one that has as many as those before, and as many as the next
@@ -84,7 +84,7 @@ walked_next sight now idle count first times time after old one two below value 
             later = after;
             was = sym (times_left count least) ∙ at;
             is = get_set_same times count after below;
-            seen = subst (λ s. IsSeenIf now idle (progress_of sight s) time s after
+            seen = subst (λ s. IsSeenIf now idle (client_progress sight s) time s after
                 (session_at two count)) (clients_left count least) seen_now;
           }))
     ]

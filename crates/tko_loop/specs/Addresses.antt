@@ -14,7 +14,8 @@ use Rattle.tko_loop.specs.declared.addresses.Reach.{Reach}
 use Rattle.tko_loop.specs.declared.addresses.Reach.TheVariants.{At, Later, Nowhere}
 
 -- at this host, or at these addresses, before the first connection
-pub record IsFresh (host : Option NamedHost) (all : List SocketAddr) (it : Addresses) : Type 0 where
+pub record AreFreshAddresses (host : Option NamedHost) (all : List SocketAddr) (it : Addresses)
+    : Type 0 where
   pub host_is : it.host ≡ host
   pub all_are : it.all.items ≡ all
   pub next : it.next ≡ 0
@@ -22,10 +23,10 @@ pub record IsFresh (host : Option NamedHost) (all : List SocketAddr) (it : Addre
   pub awaited : it.awaited ≡ None
 
 -- the addresses of a server that is at one address or at a host, or at none
-abbrev pub IsOf : ServerHost → Addresses → Type 0
-IsOf at.Nowhere it = IsFresh None [] it
-IsOf (at.Fixed one) it = IsFresh None (one ∷ []) it
-IsOf (at.Named host) it = IsFresh (Some host) [] it
+abbrev pub AreAddressesOf : ServerHost → Addresses → Type 0
+AreAddressesOf at.Nowhere it = AreFreshAddresses None [] it
+AreAddressesOf (at.Fixed one) it = AreFreshAddresses None (one ∷ []) it
+AreAddressesOf (at.Named host) it = AreFreshAddresses (Some host) [] it
 
 -- the place after one of so many, of which the first follows the last
 abbrev pub following : ℕ → ℕ → ℕ
@@ -36,14 +37,14 @@ abbrev pub place_in : (count place : ℕ) → ℕ
 place_in count place = if nat_le count place then 0 else place
 
 -- how many had ended when a look-up was asked for, where one is awaited
-abbrev pub awaited_by : Known → Option ℕ
-awaited_by known.Addresses = None
-awaited_by (known.Asked ended) = Some ended
-awaited_by known.Nothing = None
+abbrev pub look_up_awaited : Known → Option ℕ
+look_up_awaited known.Addresses = None
+look_up_awaited (known.Asked ended) = Some ended
+look_up_awaited known.Nothing = None
 
 -- the same, where there may have been no memory for what is known
 abbrev pub awaited_of : Result Known NoMemory → Option ℕ
-awaited_of (Ok told) = awaited_by told
+awaited_of (Ok told) = look_up_awaited told
 awaited_of (Err lacking) = None
 
 -- how many of so many addresses were tried, once a look-up is asked for where each was
@@ -101,8 +102,8 @@ IsTakenOf (Some listed) old result new =
     (address : SocketAddr) × (result ≡ Some address) × IsListedAs old.host listed address
     × (new ≡ taking old)
 
-abbrev pub IsTaken : Addresses → Option SocketAddr → Addresses → Type 0
-IsTaken old result new = IsTakenOf (slice_get old.all.items old.next) old result new
+abbrev pub IsAddressTaken : Addresses → Option SocketAddr → Addresses → Type 0
+IsAddressTaken old result new = IsTakenOf (slice_get old.all.items old.next) old result new
 
 -- where a connection is begun by what was taken
 abbrev pub reach_of : Option SocketAddr → Reach
@@ -113,10 +114,10 @@ reach_of None = Nowhere
 abbrev pub IsBegunIf : Option ℕ → Addresses → Reach → Addresses → Type 0
 IsBegunIf (Some ended) mid result new = (result ≡ Later) × (new ≡ mid)
 IsBegunIf None mid result new =
-    (taken : Option SocketAddr) × IsTaken mid taken new × (result ≡ reach_of taken)
+    (taken : Option SocketAddr) × IsAddressTaken mid taken new × (result ≡ reach_of taken)
 
 -- where a connection is begun, by what is known at that moment
-pub record IsBegun (old : Addresses) (result : Reach) (new : Addresses) : Type 0 where
+pub record IsConnectBegun (old : Addresses) (result : Reach) (new : Addresses) : Type 0 where
   pub mid : Addresses
   pub renewed : IsRenewed old mid
   pub begun : IsBegunIf mid.awaited mid result new

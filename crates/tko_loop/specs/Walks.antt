@@ -4,10 +4,10 @@ use Rattle.std.specs.Option.{option_and_then}
 use Rattle.tko_roster.specs.Rosters.{session_at}
 use Rattle.tko_mux.specs.declared.client.Client.{Client}
 use Rattle.tko_pace.specs.declared.client_time.ClientTime.{ClientTime}
-use Rattle.tko_pace.specs.declared.client_time.Progress.{Progress}
+use Rattle.tko_pace.specs.declared.client_time.ClientProgress.{ClientProgress}
 use Rattle.tko_pace.specs.declared.client_time.Verdict.{Verdict}
 use Rattle.tko_pace.specs.declared.client_time.Verdict.TheVariants.{Silent, Slow, Stays}
-use Rattle.tko_pace.specs.ClientTimes.{IsSilentAt, IsSlowAt, after_look, is_in_time}
+use Rattle.tko_pace.specs.ClientTimes.{IsSilentAt, IsSlowAt, after_time_look, is_in_time}
 use Rattle.tko_port.specs.declared.guest.Guest.{Guest}
 use Rattle.tko_port.specs.declared.guest.Presence.{Presence}
 use Rattle.tko_port.specs.declared.guest.Presence.TheVariants.{Here, Leaving}
@@ -23,7 +23,7 @@ is_waiting_for [] = false
 is_waiting_for (server ∷ others) = true
 
 -- how far a client is, unless it is to leave
-abbrev pub progress_by : Presence → List ℕ → Talk → Option Progress
+abbrev pub progress_by : Presence → List ℕ → Talk → Option ClientProgress
 progress_by Here awaited talk = Some (record {
   requests = talk.answered;
   taken = talk.taken;
@@ -32,15 +32,16 @@ progress_by Here awaited talk = Some (record {
 })
 progress_by (Leaving why) awaited talk = None
 
-abbrev pub progress_of : {L T : Type 0} → Sight L T → Option (Client (Guest L T)) → Option Progress
-progress_of sight slot =
+abbrev pub client_progress : {L T : Type 0} → Sight L T → Option (Client (Guest L T))
+    → Option ClientProgress
+client_progress sight slot =
     option_and_then (λ client. progress_by client.session.presence (sight.0 client.session.talk)
     (sight.1 client.session.talk)) slot
 
 -- the same of the client of a number, if one has it
 abbrev pub progress_at : {L T : Type 0} → Sight L T → List (Option (Client (Guest L T))) → ℕ
-    → Option Progress
-progress_at sight slots number = progress_of sight (session_at slots number)
+    → Option ClientProgress
+progress_at sight slots number = client_progress sight (session_at slots number)
 
 -- a client, if there is one, is to leave so
 abbrev pub LeavesBy : {L T : Type 0} → End → Option (Client (Guest L T)) → Type 0
@@ -54,17 +55,17 @@ IsJudged Silent old new = LeavesBy ReadFailed new
 IsJudged Slow old new = LeavesBy WriteFailed new
 
 -- a client was looked at that was so far, and its verdict is that of its limits
-pub record IsSeen {L T : Type 0} (now idle : ℕ) (progress : Progress) (time : ClientTime)
+pub record IsSeen {L T : Type 0} (now idle : ℕ) (progress : ClientProgress) (time : ClientTime)
     (old : Option (Client (Guest L T))) (after : ClientTime) (new : Option (Client (Guest L T)))
     : Type 0 where
   pub verdict : Verdict
   pub silent : (verdict ≡ Silent) ↔ IsSilentAt idle now progress time
   pub slow : (verdict ≡ Slow) ↔ IsSlowAt now progress time
-  pub time_after : after ≡ after_look (is_in_time verdict) now progress time
+  pub time_after : after ≡ after_time_look (is_in_time verdict) now progress time
   pub judged : IsJudged verdict old new
 
 -- the client of a number was looked at, if one has it that is not to leave
-abbrev pub IsSeenIf : {L T : Type 0} → ℕ → ℕ → Option Progress → ClientTime
+abbrev pub IsSeenIf : {L T : Type 0} → ℕ → ℕ → Option ClientProgress → ClientTime
     → Option (Client (Guest L T)) → ClientTime → Option (Client (Guest L T)) → Type 0
 IsSeenIf now idle None time old after new = (after ≡ time) × (new ≡ old)
 IsSeenIf now idle (Some progress) time old after new =
@@ -110,14 +111,14 @@ waiting_below sight slots (suc number) =
     waiting_below sight slots number + waiting_at sight slots number
 
 -- what is left of a bound without so many bytes; none where it is passed
-abbrev pub without : Option ℕ → ℕ → Option ℕ
-without None waiting = None
-without (Some left) waiting = if nat_le waiting left then Some (left - waiting) else None
+abbrev pub bound_without : Option ℕ → ℕ → Option ℕ
+bound_without None waiting = None
+bound_without (Some left) waiting = if nat_le waiting left then Some (left - waiting) else None
 
 -- so much is left of a bound without so many bytes, or it is passed
-abbrev pub IsLeft : (bound total : ℕ) → Option ℕ → Type 0
-IsLeft bound total None = bound < total
-IsLeft bound total (Some left) = total + left ≡ bound
+abbrev pub IsBoundLeft : (bound total : ℕ) → Option ℕ → Type 0
+IsBoundLeft bound total None = bound < total
+IsBoundLeft bound total (Some left) = total + left ≡ bound
 
 -- more bytes than the bound wait, and none of so many numbers has more of them than this one
 pub record IsHeaviest {L T : Type 0} (sight : Sight L T)

@@ -3,7 +3,7 @@ ghost use Rattle.std.specs.Prelude.{◌≡◌, ◌<◌, ◌≤◌, None, IfOk, i
 ghost use Rattle.std.specs.Bool.{OnFalse, OnTrue};
 ghost use Rattle.tko_tcp.specs.declared.server_host.ServerHost.{ServerHost};
 ghost use Rattle.tko_tcp.specs.ServerHosts.{LeadsTo};
-ghost use Rattle.tko_loop.specs.Addresses.{IsBegun, IsBegunIf, IsFresh, IsOf, IsRenewed, IsTaken, awaited_of, following, place_in, reach_of};
+ghost use Rattle.tko_loop.specs.Addresses.{AreAddressesOf, AreFreshAddresses, IsAddressTaken, IsBegunIf, IsConnectBegun, IsRenewed, awaited_of, following, place_in, reach_of};
 
 use std::alloc::{AllocError, Global};
 use std::net::SocketAddr;
@@ -43,7 +43,7 @@ pub(crate) enum Reach {
 impl Addresses {
     /// A server at one of these.
     pub fn new(all: Vec<SocketAddr>) -> Addresses
-        ensures { IsFresh None all.items result }
+        ensures { AreFreshAddresses None all.items result }
     {
         Addresses::at(None, all)
     }
@@ -51,7 +51,7 @@ impl Addresses {
     /// The server with this address, as a configuration has it.
     pub fn of(alloc: Global, address: &str, names: &Names) -> Result<Addresses, AllocError>
         ensures { IfOk result (λ it. (host : ServerHost) × LeadsTo address.now host
-            × IsOf host it) }
+            × AreAddressesOf host it) }
     {
         match names.server_host(address)? {
             ServerHost::Nowhere => Ok(Addresses::new(Vec::new(alloc))),
@@ -61,7 +61,7 @@ impl Addresses {
     }
 
     fn at(host: Option<NamedHost>, all: Vec<SocketAddr>) -> Addresses
-        ensures { IsFresh host all.items result }
+        ensures { AreFreshAddresses host all.items result }
     {
         Addresses {
             host,
@@ -75,7 +75,7 @@ impl Addresses {
 
     /// Where a connection is begun now.
     pub(crate) fn begin<R: Wait>(&mut self, rt: &R) -> Reach
-        ensures { IsBegun self.old result self.new }
+        ensures { IsConnectBegun self.old result self.new }
     {
         self.renew(rt);
         self.begin_now()
@@ -123,7 +123,7 @@ impl Addresses {
 
     /// The next address in turn.
     fn take_next(&mut self) -> Option<SocketAddr>
-        ensures { IsTaken self.old result self.new }
+        ensures { IsAddressTaken self.old result self.new }
     {
         let mut address = *self.all.get(self.next)?;
         if let Some(host) = &self.host {

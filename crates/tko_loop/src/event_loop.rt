@@ -13,7 +13,7 @@ use crate::seats::Seats;
 use crate::targets::seat_token;
 use crate::times::Times;
 use crate::walk::{look_at_all, relieve};
-use crate::{Addresses, Arrival, Entry, Held, Host, Load, LoopLimits};
+use crate::{Addresses, Arrival, Held, Host, Load, LoopEntry, LoopLimits};
 use crossbeam_channel::TryRecvError;
 use mio::Events;
 use std::alloc::{AllocError, Global};
@@ -21,7 +21,7 @@ use std::io;
 use std::time::Duration;
 use tko_io::{Clock, IoRuntime, MonotonicClock};
 use tko_pace::ClientTime;
-use tko_port::{Shared, Talking};
+use tko_port::{SharedParts, Talking};
 use tko_socket::Socket;
 use tko_worker::EventWorker;
 
@@ -38,7 +38,7 @@ const WALK: u64 = 100;
 
 /// Whether another turn of events follows.
 #[derive(Clone, Copy, Debug, PartialEq, Eq)]
-pub enum Turn {
+pub enum NextTurn {
     Goes,
     /// No client is left, and none can come.
     Over,
@@ -58,7 +58,7 @@ enum Intake {
 /// A worker over a poll of the system.
 #[derive(Drop)]
 pub struct EventLoop<T, P, K> {
-    entry: Entry<K>,
+    entry: LoopEntry<K>,
     events: Events,
     pub worker: EventWorker<Held<K>, T, P>,
     servers: Vec<Addresses>,
@@ -81,7 +81,7 @@ impl<P: Drop, T: Talking<P> + Drop, K: Drop> EventLoop<T, P, K> {
     pub fn new<R: IoRuntime>(
         rt: &R,
         alloc: Global,
-        entry: Entry<K>,
+        entry: LoopEntry<K>,
         parts: P,
         servers: Vec<Addresses>,
         limits: LoopLimits,
@@ -102,7 +102,7 @@ impl<P: Drop, T: Talking<P> + Drop, K: Drop> EventLoop<T, P, K> {
         ) else {
             return Err(parts);
         };
-        let shared = Shared {
+        let shared = SharedParts {
             parts,
             buffer: pieces,
         };
@@ -121,7 +121,7 @@ impl<P: Drop, T: Talking<P> + Drop, K: Drop> EventLoop<T, P, K> {
                 pause: 0,
                 walked: 0,
             }),
-            Err(Shared { parts, .. }) => Err(parts),
+            Err(SharedParts { parts, .. }) => Err(parts),
         }
     }
 }
@@ -153,8 +153,8 @@ impl<P, T: Talking<P> + Drop, K: Drop> EventLoop<T, P, K> {
     {
         for _ in rt.forever() {
             match self.turn(rt, alloc, host)? {
-                Turn::Goes => {}
-                Turn::Over => return Ok(()),
+                NextTurn::Goes => {}
+                NextTurn::Over => return Ok(()),
             }
         }
         unreachable!()
@@ -166,7 +166,7 @@ impl<P, T: Talking<P> + Drop, K: Drop> EventLoop<T, P, K> {
         rt: &R,
         alloc: Global,
         host: &mut H,
-    ) -> io::Result<Turn>
+    ) -> io::Result<NextTurn>
         requires room { 0 < length self.old.buffer.items }
         requires order { IsInOrder (T.awaited, T.talk, held_port) T.ready self.old.worker.clients }
         ensures room { 0 < length self.new.buffer.items }
@@ -332,14 +332,14 @@ impl<P, T: Talking<P> + Drop, K: Drop> EventLoop<T, P, K> {
     }
 
     /// Whether another turn follows.
-    fn after(&self, intake: Intake) -> Turn
+    fn after(&self, intake: Intake) -> NextTurn
         ensures { result ≡ Turn.Over → (number : ℕ)
             → number < length self.now.worker.clients.mux.roster.slots
             → session_at self.now.worker.clients.mux.roster.slots number ≡ None }
     {
         match intake {
-            Intake::Closed if self.worker.clients.is_empty() => Turn::Over,
-            _ => Turn::Goes,
+            Intake::Closed if self.worker.clients.is_empty() => NextTurn::Over,
+            _ => NextTurn::Goes,
         }
     }
 }

@@ -49,26 +49,26 @@ impl<K: Drop> Drop for Handover<K> {
 
 /// Where a loop takes its clients and waits for events, as it is handed to the loop's thread.
 #[derive(Drop)]
-pub struct Entry<K> {
+pub struct LoopEntry<K> {
     pub(crate) poll: Poll,
     pub(crate) clients: Receiver<Arrival<K>>,
     /// It is kept here, so that a wake is not lost.
     pub(crate) waker: Arc<Waker, Global>,
 }
 
-impl<K: Drop> Entry<K> {
+impl<K: Drop> LoopEntry<K> {
     /// A way to a loop, where so many clients can wait to be taken in.
     pub fn open<R: IoRuntime>(
         rt: &R,
         alloc: Global,
         room: usize,
-    ) -> io::Result<(Entry<K>, Handover<K>)> {
+    ) -> io::Result<(LoopEntry<K>, Handover<K>)> {
         let Ok((sender, receiver)) = bounded(alloc, room) else {
             return Err(ErrorKind::OutOfMemory.into());
         };
         let poll = Poll::new(rt)?;
         let waker = Arc::new(alloc, Waker::new(poll.registry(), WAKER)?)?;
-        let entry = Entry {
+        let entry = LoopEntry {
             poll,
             clients: receiver,
             waker: Arc::try_clone(&waker)?,

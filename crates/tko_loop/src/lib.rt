@@ -1,10 +1,10 @@
 //! The loop of one event-driven worker: a poll of the system, and what is done at each of its
 //! returns, which is a turn of events.
 //!
-//! - `EventLoop`: the worker with its poll, its clock and its servers' addresses; `Turn`: whether
-//!   another turn follows.
-//! - `Handover` and `Entry`: the two ends of the way of clients from another thread to the loop;
-//!   `Arrival`: a client on it.
+//! - `EventLoop`: the worker with its poll, its clock and its servers' addresses; `NextTurn`:
+//!   whether another turn follows.
+//! - `Handover` and `LoopEntry`: the two ends of the way of clients from another thread to the
+//!   loop; `Arrival`: a client on it.
 //! - `Host`: makes the sessions of those that came, and runs a round at the end of each turn.
 //! - `LoopLimits`: how long the loop waits for clients and servers, and how many bytes of replies
 //!   may wait.
@@ -33,8 +33,8 @@ mod times;
 mod walk;
 
 pub use addresses::Addresses;
-pub use event_loop::{EventLoop, Turn};
-pub use handover::{Arrival, Entry, Handover};
+pub use event_loop::{EventLoop, NextTurn};
+pub use handover::{Arrival, Handover, LoopEntry};
 pub use held::Held;
 pub use host::Host;
 pub use limits::LoopLimits;

@@ -130,14 +130,14 @@ fn note_ready<P, T: Talking<P> + Drop, K: Drop>(
     ensures clients { worker.new.clients ≡ worker.old.clients }
 {
     if event.is_writable() {
-        worker.note_server(server, tko_port::Event::Writable);
+        worker.note_server(server, tko_port::ClientEvent::Writable);
     }
     if has_ended(event) {
-        worker.note_server(server, tko_port::Event::Ended);
+        worker.note_server(server, tko_port::ClientEvent::Ended);
         return;
     }
     if event.is_readable() {
-        worker.note_server(server, tko_port::Event::Readable);
+        worker.note_server(server, tko_port::ClientEvent::Readable);
     }
 }
 

@@ -17,9 +17,9 @@ const IDLE: u64 = 100;
 /// The longest wait while the addresses of a server are looked up.
 const LOOK_UP: u64 = 10;
 
-/// How many milliseconds the poll may wait after a turn of this moment, at whose end this lies ahead
-/// of the worker, and more clients may wait to be taken in or not. A connection that is wanted is
-/// begun in the next turn, so that does not wait.
+/// How many milliseconds the poll may wait after a turn of this moment, at whose end this lies
+/// ahead of the worker, and more clients may wait to be taken in or not. A connection that is
+/// wanted is begun in the next turn, so that does not wait.
 pub(crate) fn pause_after<P, T: Talking<P> + Drop, K: Drop>(
     worker: &EventWorker<Held<K>, T, P>,
     servers: &Vec<Addresses>,

@@ -1,6 +1,6 @@
 //! Loops over the loopback.
 
-use crate::{Addresses, Arrival, Entry, EventLoop, Handover, Host, Load, LoopLimits, Turn};
+use crate::{Addresses, Arrival, EventLoop, Handover, Host, Load, LoopEntry, LoopLimits, NextTurn};
 use std::alloc::Global;
 use std::io::{Read as _, Write as _};
 use std::net::{Ipv4Addr, Net, Shutdown, SocketAddr, TcpListener, TcpStream};
@@ -11,7 +11,7 @@ use tko_io::IoRuntime;
 use tko_model::{Clear, Look, Mark};
 use tko_mux::Came;
 use tko_pipe::Fate;
-use tko_port::{Port, Stage, Talking, Tally};
+use tko_port::{Port, SessionStage, Talking, Tally};
 use tko_tcp::Names;
 use tko_text::Request;
 use tko_worker::EventWorker;
@@ -20,7 +20,7 @@ use tko_worker::EventWorker;
 /// server 0 its version first, and then replies `came`, or why nothing did; where it begins with
 /// `+`, it replies with `+` before that; where it begins with `!`, it replies with 16 MiB.
 #[derive(Drop)]
-struct Talk {
+struct EchoSession {
     request: Request,
     unread: Vec<u8>,
     output: Vec<u8>,
@@ -28,7 +28,7 @@ struct Talk {
     taken: u64,
     awaits: Option<usize>,
     is_ended: bool,
-    stage: Stage,
+    stage: SessionStage,
 }
 
 /// The permission to ask a server that is up.
@@ -41,7 +41,7 @@ fn clear_of(server: usize) -> Option<Clear>
     }
 }
 
-impl Talking<()> for Talk {
+impl Talking<()> for EchoSession {
     ghost use Rattle.std.specs.Prelude.{None, Some, length};
     ghost use Rattle.tko_mux.specs.Awaits.{awaited_one};
 
@@ -72,14 +72,14 @@ impl Talking<()> for Talk {
     ghost same_stays = { λ _. tt };
 
     fn go_on(&mut self, _parts: &mut ()) -> Result<Option<Clear>, NoMemory> {
-        self.stage = Stage::Waits;
+        self.stage = SessionStage::Waits;
         if self.awaits.is_some() {
             return Ok(None);
         }
         self.stage = if self.is_ended {
-            Stage::Over
+            SessionStage::Over
         } else {
-            Stage::NeedsInput
+            SessionStage::NeedsInput
         };
         let is_plus = self.unread.first() == Some(&b'+');
         if is_plus {
@@ -88,7 +88,7 @@ impl Talking<()> for Talk {
         if is_plus || self.unread.first() == Some(&b'?') {
             self.unread.clear();
             self.awaits = Some(0);
-            self.stage = Stage::Waits;
+            self.stage = SessionStage::Waits;
             return Ok(clear_of(0));
         }
         if self.unread.first() == Some(&b'!') {
@@ -102,7 +102,7 @@ impl Talking<()> for Talk {
         Ok(None)
     }
 
-    fn stage(&self) -> Stage {
+    fn stage(&self) -> SessionStage {
         self.stage
     }
 
@@ -125,14 +125,14 @@ impl Talking<()> for Talk {
     }
 
     fn feed(&mut self, _parts: &mut (), piece: &[u8]) -> Result<(), NoMemory> {
-        self.stage = Stage::Going;
+        self.stage = SessionStage::Going;
         self.unread.extend_from_slice(piece)?;
         Ok(())
     }
 
     fn end(&mut self, _parts: &mut ()) {
         self.is_ended = true;
-        self.stage = Stage::Over;
+        self.stage = SessionStage::Over;
     }
 
     fn take(&mut self, _parts: &mut (), _server: usize, came: Came) -> Option<Clear> {
@@ -168,11 +168,11 @@ struct Greets {
     refused: u32,
 }
 
-impl Host<(), Talk> for Greets {
+impl Host<(), EchoSession> for Greets {
     ghost rounds = { λ _ _ _. Unit {0} };
 
-    fn greet(&mut self, _parts: &()) -> Result<Talk, NoMemory> {
-        Ok(Talk {
+    fn greet(&mut self, _parts: &()) -> Result<EchoSession, NoMemory> {
+        Ok(EchoSession {
             request: Request::Version,
             unread: Vec::new(self.alloc),
             output: Vec::new(self.alloc),
@@ -180,14 +180,14 @@ impl Host<(), Talk> for Greets {
             taken: 0,
             awaits: None,
             is_ended: false,
-            stage: Stage::Going,
+            stage: SessionStage::Going,
         })
     }
 
     fn round<L: Port + Drop>(
         &mut self,
         _alloc: Global,
-        _worker: &mut EventWorker<L, Talk, ()>,
+        _worker: &mut EventWorker<L, EchoSession, ()>,
         _moment: u64,
         _due: u64,
     ) {}
@@ -199,7 +199,7 @@ impl Host<(), Talk> for Greets {
     }
 }
 
-type TestLoop = EventLoop<Talk, (), u8>;
+type TestLoop = EventLoop<EchoSession, (), u8>;
 
 /// No limit but that of a response, which is due so many milliseconds after its request.
 fn limits(response: u64) -> LoopLimits {
@@ -220,7 +220,7 @@ fn new_loop_to<R: IoRuntime>(
 ) -> Result<(TestLoop, Handover<u8>), Fail> {
     let mut servers = Vec::new(alloc);
     servers.push(addresses)?;
-    let (entry, handover) = Entry::open(rt, alloc, 16)?;
+    let (entry, handover) = LoopEntry::open(rt, alloc, 16)?;
     match EventLoop::new(rt, alloc, entry, (), servers, limits) {
         Ok(it) => Ok((it, handover)),
         Err(()) => Err("no memory".into()),
@@ -375,7 +375,7 @@ fn a_server_that_is_silent_is_late(rt: HostRuntime) -> Result<(), Fail> {
     assert!(rt; comes(&rt, alloc, &mut it, &mut one, b"late".as_slice())?);
     assert_eq!(rt;
         it.turn(&rt, alloc, &mut Greets { alloc, refused: 0 })?,
-        Turn::Goes
+        NextTurn::Goes
     );
     Ok(())
 }

@@ -2,10 +2,10 @@
 ghost use Rattle.std.specs.Prelude.{◌≡◌, ◌≤◌, ◌⊎◌, [], length};
 ghost use Rattle.tko_roster.specs.Rosters.{session_at};
 ghost use Rattle.tko_worker.specs.Workers.{IsInOrder, OthersStay};
-ghost use Rattle.tko_loop.specs.Walks.{AreWaits, HasWalked, IsHeaviestIf, IsJudged, IsSeenIf, LeavesBy, progress_at, waiting_at, without};
+ghost use Rattle.tko_loop.specs.Walks.{AreWaits, HasWalked, IsHeaviestIf, IsJudged, IsSeenIf, LeavesBy, bound_without, progress_at, waiting_at};
 
 use std::alloc::Global;
-use tko_pace::{ClientTime, Progress, Verdict};
+use tko_pace::{ClientProgress, ClientTime, Verdict};
 use tko_port::{End, Port, Talking};
 use tko_worker::Worker;
 
@@ -96,12 +96,12 @@ fn end<P, L: Port + Drop, T: Talking<P> + Drop>(
 fn progress_of<P, L: Port + Drop, T: Talking<P> + Drop>(
     clients: &Worker<L, T, P>,
     number: usize,
-) -> Option<Progress>
+) -> Option<ClientProgress>
     ensures { result
         ≡ progress_at (T.awaited, T.talk, L.port) clients.now.mux.roster.slots number }
 {
     let tally = clients.tally(number)?;
-    Some(Progress {
+    Some(ClientProgress {
         requests: tally.requests,
         taken: tally.taken,
         waiting: tally.waiting,
@@ -244,7 +244,7 @@ pub(crate) fn waiting_of<P, L: Port + Drop, T: Talking<P> + Drop>(
 
 /// What is left of a bound without so many bytes; none where it is passed.
 fn without(left: Option<usize>, waiting: usize) -> Option<usize>
-    ensures { result ≡ without left waiting }
+    ensures { result ≡ bound_without left waiting }
 {
     let left = left?;
     left.checked_sub(waiting)

@@ -4,7 +4,7 @@ use Rattle.std.specs.Option.{option_copied, unwrap_or}
 use Rattle.std.specs.List.{range_with_len}
 use Rattle.std.proofs.lemmas.List.{map-append, map-id}
 use Rattle.std.proofs.lemmas.List.FromFn.{map-range_with_len_more}
-use Rattle.tko_metrics.specs.declared.meter.Shared.{Shared}
+use Rattle.tko_metrics.specs.declared.meter.SharedMeter.{SharedMeter}
 use Rattle.tko_metrics.specs.declared.workers.WorkerReading.{WorkerReading}
 use Rattle.tko_metrics.specs.Loads.{AreWorkers}
 use Rattle.tko_metrics.specs.Meters.{parts_of}
@@ -27,7 +27,7 @@ workers_next count workers it are is =
     ∙ sym (range_next count)
 
 -- the numbers that a page shows are those of the meter's parts, or none
-pub parts_shown : (found : Option (Bor Shared)) (nothing : Bor Shared)
+pub parts_shown : (found : Option (Bor SharedMeter)) (nothing : Bor SharedMeter)
     → nothing.now.workers.items ≡ []
     → length (unwrap_or found nothing).now.workers.items ≡ parts_of (option_copied found)
 parts_shown None nothing none = ap length none

@@ -5,10 +5,10 @@ use Rattle.tko_metrics.specs.declared.worker_meter.Marking.{Marking}
 use Rattle.tko_metrics.specs.declared.worker_meter.Marking.TheVariants.{Up, Soft, Hard}
 
 -- the number that stands for a mark
-abbrev pub number_of : Marking → ℕ
-number_of Up = 0
-number_of Soft = 1
-number_of Hard = 2
+abbrev pub mark_number : Marking → ℕ
+mark_number Up = 0
+mark_number Soft = 1
+mark_number Hard = 2
 
 -- whether there is a mark
 abbrev pub is_mark : Marking → Bool

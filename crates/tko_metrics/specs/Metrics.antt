@@ -1,15 +1,15 @@
 -- The metrics: their names, what they tell, and what kind of number each is.
 use Rattle.std.specs.Prelude.{ℕ, List, codes}
-use Rattle.tko_metrics.specs.declared.metrics.Kind.{Kind}
-use Rattle.tko_metrics.specs.declared.metrics.Kind.TheVariants.{Counter, Gauge}
+use Rattle.tko_metrics.specs.declared.metrics.MetricKind.{MetricKind}
+use Rattle.tko_metrics.specs.declared.metrics.MetricKind.TheVariants.{Counter, Gauge}
 use Rattle.tko_metrics.specs.declared.metrics.Metric.{Metric}
 use Rattle.tko_metrics.specs.declared.metrics.Metric.TheVariants as metric
 use Rattle.tko_metrics.specs.declared.worker_meter.Ending.{Ending}
 use Rattle.tko_metrics.specs.declared.worker_meter.Ending.TheVariants as ending
 
-abbrev pub kind_word : Kind → List ℕ
-kind_word Counter = codes "counter"
-kind_word Gauge = codes "gauge"
+abbrev pub metric_kind_word : MetricKind → List ℕ
+metric_kind_word Counter = codes "counter"
+metric_kind_word Gauge = codes "gauge"
 
 -- the word of a kind of fault, by which a session ended
 abbrev pub ending_word : Ending → List ℕ
@@ -70,25 +70,25 @@ help_of metric.DescriptorLimit =
     codes "How many file descriptors the process could have open at its start."
 help_of metric.Memory = codes "Resident memory in bytes."
 
-abbrev pub kind_of : Metric → Kind
-kind_of metric.Connected = Gauge
-kind_of metric.Accepted = Counter
-kind_of metric.Dropped = Counter
-kind_of metric.Sessions = Counter
-kind_of metric.Faults = Counter
-kind_of metric.Requests = Counter
-kind_of metric.Attempts = Counter
-kind_of metric.Skips = Counter
-kind_of metric.Replies = Counter
-kind_of metric.NoServer = Counter
-kind_of metric.Probes = Counter
-kind_of metric.ServerSends = Counter
-kind_of metric.ServerProbes = Counter
-kind_of metric.ServerMarked = Gauge
-kind_of metric.MarkedSince = Gauge
-kind_of metric.WorkerClients = Gauge
-kind_of metric.WorkerConnections = Gauge
-kind_of metric.WorkerWaiting = Gauge
-kind_of metric.Descriptors = Gauge
-kind_of metric.DescriptorLimit = Gauge
-kind_of metric.Memory = Gauge
+abbrev pub metric_kind : Metric → MetricKind
+metric_kind metric.Connected = Gauge
+metric_kind metric.Accepted = Counter
+metric_kind metric.Dropped = Counter
+metric_kind metric.Sessions = Counter
+metric_kind metric.Faults = Counter
+metric_kind metric.Requests = Counter
+metric_kind metric.Attempts = Counter
+metric_kind metric.Skips = Counter
+metric_kind metric.Replies = Counter
+metric_kind metric.NoServer = Counter
+metric_kind metric.Probes = Counter
+metric_kind metric.ServerSends = Counter
+metric_kind metric.ServerProbes = Counter
+metric_kind metric.ServerMarked = Gauge
+metric_kind metric.MarkedSince = Gauge
+metric_kind metric.WorkerClients = Gauge
+metric_kind metric.WorkerConnections = Gauge
+metric_kind metric.WorkerWaiting = Gauge
+metric_kind metric.Descriptors = Gauge
+metric_kind metric.DescriptorLimit = Gauge
+metric_kind metric.Memory = Gauge

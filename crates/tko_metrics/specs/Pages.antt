@@ -41,18 +41,18 @@ counts_text page =
     ++ single metric.Probes (probes_in_all page.servers.items)
 
 -- what was sent to a server
-abbrev pub sends_of : Shown → List ℕ
-sends_of server = server_sample metric.ServerSends server.address.now server.reading.sends
+abbrev pub sends_sample : Shown → List ℕ
+sends_sample server = server_sample metric.ServerSends server.address.now server.reading.sends
 
 unfoldable pub sends_text : List Shown → List ℕ
-sends_text servers = head_of metric.ServerSends ++ flat_map sends_of servers
+sends_text servers = head_of metric.ServerSends ++ flat_map sends_sample servers
 
 -- the probes of a server
-abbrev pub probes_of : Shown → List ℕ
-probes_of server = server_sample metric.ServerProbes server.address.now server.reading.probes
+abbrev pub probes_sample : Shown → List ℕ
+probes_sample server = server_sample metric.ServerProbes server.address.now server.reading.probes
 
 unfoldable pub probes_text : List Shown → List ℕ
-probes_text servers = head_of metric.ServerProbes ++ flat_map probes_of servers
+probes_text servers = head_of metric.ServerProbes ++ flat_map probes_sample servers
 
 abbrev pub soft_flag : Marking → ℕ
 soft_flag Up = 0
@@ -65,15 +65,15 @@ hard_flag Soft = 0
 hard_flag Hard = 1
 
 -- whether a server has each of the two marks
-unfoldable pub marks_of : Shown → List ℕ
-marks_of server =
+unfoldable pub mark_samples : Shown → List ℕ
+mark_samples server =
     mark_sample metric.ServerMarked server.address.now (codes "soft")
     (soft_flag server.reading.mark)
     ++ mark_sample metric.ServerMarked server.address.now (codes "hard")
     (hard_flag server.reading.mark)
 
 unfoldable pub marks_text : List Shown → List ℕ
-marks_text servers = head_of metric.ServerMarked ++ flat_map marks_of servers
+marks_text servers = head_of metric.ServerMarked ++ flat_map mark_samples servers
 
 -- since when a server with this address is marked, if it is
 abbrev pub moment_with : List ℕ → Marking → ℕ → List ℕ
@@ -81,11 +81,11 @@ moment_with address Up since = []
 moment_with address Soft since = moment_sample metric.MarkedSince address since
 moment_with address Hard since = moment_sample metric.MarkedSince address since
 
-abbrev pub moment_of : Shown → List ℕ
-moment_of server = moment_with server.address.now server.reading.mark server.reading.since
+abbrev pub mark_moment_of : Shown → List ℕ
+mark_moment_of server = moment_with server.address.now server.reading.mark server.reading.since
 
 unfoldable pub moments_text : List Shown → List ℕ
-moments_text servers = head_of metric.MarkedSince ++ flat_map moment_of servers
+moments_text servers = head_of metric.MarkedSince ++ flat_map mark_moment_of servers
 
 unfoldable pub servers_text : Page → List ℕ
 servers_text page =

@@ -5,8 +5,8 @@ use Rattle.tko_metrics.specs.declared.worker_meter.Marking.TheVariants.{Up}
 use Rattle.tko_metrics.specs.Marks.{is_mark}
 
 -- whether the worker has a mark on the server
-abbrev pub is_marked : ServerReading → Bool
-is_marked reading = is_mark reading.mark
+abbrev pub is_marked_reading : ServerReading → Bool
+is_marked_reading reading = is_mark reading.mark
 
 -- the numbers of a server with this mark, if it has one
 abbrev pub with_mark : ℕ → ℕ → Option ServerReading → ServerReading
@@ -19,4 +19,4 @@ with_mark sends probes None = record { sends = sends; probes = probes; mark = Up
 abbrev pub together : List ServerReading → ServerReading
 together parts =
     with_mark (min (sum_by (λ part. part.sends) parts) (2 ^ 64 - 1))
-    (min (sum_by (λ part. part.probes) parts) (2 ^ 64 - 1)) (find is_marked parts)
+    (min (sum_by (λ part. part.probes) parts) (2 ^ 64 - 1)) (find is_marked_reading parts)

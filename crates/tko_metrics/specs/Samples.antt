@@ -2,13 +2,14 @@
 use Rattle.std.specs.Prelude.{ℕ, ◌==◌, ◌||◌, ◌/◌, ◌%◌, if◌then◌else◌, List, [], ◌∷◌, ◌++◌, codes, decimal, flat_map}
 use Rattle.tko_metrics.specs.declared.metrics.Metric.{Metric}
 use Rattle.tko_metrics.specs.declared.worker_meter.Ending.{Ending}
-use Rattle.tko_metrics.specs.Metrics.{ending_word, help_of, kind_of, kind_word, name_of}
+use Rattle.tko_metrics.specs.Metrics.{ending_word, help_of, metric_kind, metric_kind_word, name_of}
 
 -- the two lines before the samples of a metric
 unfoldable pub head_of : Metric → List ℕ
 head_of metric =
     (codes "# HELP " ++ name_of metric ++ codes " " ++ help_of metric ++ codes "\n")
-    ++ (codes "# TYPE " ++ name_of metric ++ codes " " ++ kind_word (kind_of metric) ++ codes "\n")
+    ++ (codes "# TYPE " ++ name_of metric ++ codes " "
+    ++ metric_kind_word (metric_kind metric) ++ codes "\n")
 
 -- a metric of one sample
 unfoldable pub single : Metric → ℕ → List ℕ

@@ -2,7 +2,7 @@
 ghost use Rattle.std.specs.Prelude.{◌≡◌, IfOk, length, map, option_copied, option_map, string_bytes};
 ghost use Rattle.std.specs.Arc.{arc_value};
 ghost use Rattle.tko_metrics.specs.Loads.{AreWorkersIf};
-ghost use Rattle.tko_metrics.specs.Meters.{HasParts, parts_in};
+ghost use Rattle.tko_metrics.specs.Meters.{HasParts, meter_parts};
 ghost use Rattle.tko_metrics.specs.Pages.{IsPage};
 
 use crate::counter::Counter;
@@ -19,7 +19,7 @@ use tko_bytes::NoMemory;
 
 /// What all ends of a meter share.
 #[derive(Drop)]
-pub(crate) struct Shared {
+pub(crate) struct SharedMeter {
     /// The clients that are connected now.
     pub(crate) connected: Counter,
     /// The connections that were accepted and set up.
@@ -35,15 +35,15 @@ pub(crate) struct Shared {
 /// The numbers of a server. A meter that is off keeps nothing.
 #[derive(Drop)]
 pub struct Meter {
-    shared: Option<Arc<Shared, Global>>,
+    shared: Option<Arc<SharedMeter, Global>>,
 }
 
-impl Shared {
+impl SharedMeter {
     /// Of these workers, which nobody has added to.
-    fn of(workers: Vec<Arc<Numbers, Global>>) -> Shared
+    fn of(workers: Vec<Arc<Numbers, Global>>) -> SharedMeter
         ensures { result.workers ≡ workers }
     {
-        Shared {
+        SharedMeter {
             connected: Counter::new(),
             accepted: Counter::new(),
             dropped: Counter::new(),
@@ -93,7 +93,7 @@ impl Meter {
             each.push(Arc::new(alloc, Numbers::new(alloc, servers)?)?)?;
         }
         Ok(Meter {
-            shared: Some(Arc::new(alloc, Shared::of(each))?),
+            shared: Some(Arc::new(alloc, SharedMeter::of(each))?),
         })
     }
 
@@ -179,14 +179,14 @@ impl Meter {
         process: &Process,
     ) -> Result<Vec<u8>, NoMemory>
         ensures { IfOk result (λ text.
-            IsPage (map string_bytes addresses.now) (parts_in self.now) text.items) }
+            IsPage (map string_bytes addresses.now) (meter_parts self.now) text.items) }
     {
-        let nothing = Shared::of(Vec::new(alloc));
+        let nothing = SharedMeter::of(Vec::new(alloc));
         let shared = self.shared().unwrap_or(&nothing);
         shared.reading(alloc, addresses, process)?.text(alloc)
     }
 
-    fn shared(&self) -> Option<&Shared>
+    fn shared(&self) -> Option<&SharedMeter>
         ensures { option_copied result ≡ option_map (λ shared. arc_value shared) self.now.shared }
     {
         match &self.shared {

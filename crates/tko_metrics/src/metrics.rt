@@ -1,10 +1,10 @@
 //! The metrics: their names, and what they tell.
 ghost use Rattle.std.specs.Prelude.{◌≡◌};
-ghost use Rattle.tko_metrics.specs.Metrics.{help_of, kind_of, kind_word, name_of};
+ghost use Rattle.tko_metrics.specs.Metrics.{help_of, metric_kind, metric_kind_word, name_of};
 
 /// What kind of number a metric is.
 #[derive(Clone, Copy, Debug, PartialEq, Eq)]
-pub(crate) enum Kind {
+pub(crate) enum MetricKind {
     Counter,
     Gauge,
 }
@@ -35,13 +35,13 @@ pub(crate) enum Metric {
     Memory,
 }
 
-impl Kind {
+impl MetricKind {
     pub(crate) fn word(self) -> &'static str
-        ensures { result.now ≡ kind_word self }
+        ensures { result.now ≡ metric_kind_word self }
     {
         match self {
-            Kind::Counter => "counter",
-            Kind::Gauge => "gauge",
+            MetricKind::Counter => "counter",
+            MetricKind::Gauge => "gauge",
         }
     }
 }
@@ -119,31 +119,31 @@ impl Metric {
         }
     }
 
-    pub(crate) fn kind(self) -> Kind
-        ensures { result ≡ kind_of self }
+    pub(crate) fn kind(self) -> MetricKind
+        ensures { result ≡ metric_kind self }
     {
         match self {
-            Metric::Connected => Kind::Gauge,
-            Metric::Accepted => Kind::Counter,
-            Metric::Dropped => Kind::Counter,
-            Metric::Sessions => Kind::Counter,
-            Metric::Faults => Kind::Counter,
-            Metric::Requests => Kind::Counter,
-            Metric::Attempts => Kind::Counter,
-            Metric::Skips => Kind::Counter,
-            Metric::Replies => Kind::Counter,
-            Metric::NoServer => Kind::Counter,
-            Metric::Probes => Kind::Counter,
-            Metric::ServerSends => Kind::Counter,
-            Metric::ServerProbes => Kind::Counter,
-            Metric::ServerMarked => Kind::Gauge,
-            Metric::MarkedSince => Kind::Gauge,
-            Metric::WorkerClients => Kind::Gauge,
-            Metric::WorkerConnections => Kind::Gauge,
-            Metric::WorkerWaiting => Kind::Gauge,
-            Metric::Descriptors => Kind::Gauge,
-            Metric::DescriptorLimit => Kind::Gauge,
-            Metric::Memory => Kind::Gauge,
+            Metric::Connected => MetricKind::Gauge,
+            Metric::Accepted => MetricKind::Counter,
+            Metric::Dropped => MetricKind::Counter,
+            Metric::Sessions => MetricKind::Counter,
+            Metric::Faults => MetricKind::Counter,
+            Metric::Requests => MetricKind::Counter,
+            Metric::Attempts => MetricKind::Counter,
+            Metric::Skips => MetricKind::Counter,
+            Metric::Replies => MetricKind::Counter,
+            Metric::NoServer => MetricKind::Counter,
+            Metric::Probes => MetricKind::Counter,
+            Metric::ServerSends => MetricKind::Counter,
+            Metric::ServerProbes => MetricKind::Counter,
+            Metric::ServerMarked => MetricKind::Gauge,
+            Metric::MarkedSince => MetricKind::Gauge,
+            Metric::WorkerClients => MetricKind::Gauge,
+            Metric::WorkerConnections => MetricKind::Gauge,
+            Metric::WorkerWaiting => MetricKind::Gauge,
+            Metric::Descriptors => MetricKind::Gauge,
+            Metric::DescriptorLimit => MetricKind::Gauge,
+            Metric::Memory => MetricKind::Gauge,
         }
     }
 }

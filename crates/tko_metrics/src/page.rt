@@ -1,6 +1,6 @@
 //! The page of a server's metrics.
 ghost use Rattle.std.specs.Prelude.{◌≡◌, ◌++◌, IfOk, OnOk};
-ghost use Rattle.tko_metrics.specs.Pages.{clients_text, counts_text, faults_text, hard_flag, known_text, marks_of, marks_text, moment_of, moments_text, page_text, probes_in_all, probes_text, process_text, requests_text, sends_text, servers_text, soft_flag, workers_text};
+ghost use Rattle.tko_metrics.specs.Pages.{clients_text, counts_text, faults_text, hard_flag, known_text, mark_moment_of, mark_samples, marks_text, moments_text, page_text, probes_in_all, probes_text, process_text, requests_text, sends_text, servers_text, soft_flag, workers_text};
 
 use crate::metrics::Metric;
 use crate::reading::{Shown, Sums};
@@ -164,9 +164,9 @@ fn add_marks(out: &mut Vec<u8>, servers: &[Shown<'_>]) -> Result<(), NoMemory>
 }
 
 /// Appends whether a server has each of the two marks.
-#[tactic(auto, unfolding(crate::specs::Pages::marks_of))]
+#[tactic(auto, unfolding(crate::specs::Pages::mark_samples))]
 fn add_marks_of(out: &mut Vec<u8>, server: Shown<'_>) -> Result<(), NoMemory>
-    ensures { OnOk result (out.new.items ≡ out.old.items ++ marks_of server.entry) }
+    ensures { OnOk result (out.new.items ≡ out.old.items ++ mark_samples server.entry) }
 {
     let Shown { address, reading } = server;
     add_of_mark(
@@ -218,7 +218,7 @@ fn add_moments(out: &mut Vec<u8>, servers: &[Shown<'_>]) -> Result<(), NoMemory>
 
 /// Appends since when a server is marked, if it is.
 fn add_moment_of(out: &mut Vec<u8>, server: Shown<'_>) -> Result<(), NoMemory>
-    ensures { OnOk result (out.new.items ≡ out.old.items ++ moment_of server.entry) }
+    ensures { OnOk result (out.new.items ≡ out.old.items ++ mark_moment_of server.entry) }
 {
     let Shown { address, reading } = server;
     match reading.mark {

@@ -7,7 +7,7 @@ use std::alloc::Global;
 use std::fs::{File, Files};
 use std::io::{Read, Seek};
 use std::os::fd::AsRawFd;
-use tko_bytes::{Words, number};
+use tko_bytes::{SpacedWords, number};
 
 /// Where the system tells the memory of the process.
 const STATUS: &str = "/proc/self/status";
@@ -65,7 +65,7 @@ impl Process {
 fn resident_in(text: &[u8]) -> Option<u64> {
     text.split(|byte| *byte == b'\n')
         .find_map(|line| line.strip_prefix(RESIDENT))
-        .and_then(|words| number(Words::of(words).next()?, u64::MAX))
+        .and_then(|words| number(SpacedWords::of(words).next()?, u64::MAX))
         .map(|kibibytes| kibibytes.saturating_mul(1024))
 }
 

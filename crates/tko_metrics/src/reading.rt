@@ -1,8 +1,8 @@
 //! What a meter says at a moment.
 ghost use Rattle.std.specs.Prelude.{◌≡◌, ◌^◌, ◌-◌, IfOk, find, map, min, string_bytes, sum_by};
-ghost use Rattle.tko_metrics.specs.Readings.{is_marked, together};
+ghost use Rattle.tko_metrics.specs.Readings.{is_marked_reading, together};
 
-use crate::meter::Shared;
+use crate::meter::SharedMeter;
 use crate::worker_meter::{Marking, Numbers};
 use std::alloc::{AllocError, Global};
 
@@ -43,7 +43,7 @@ impl Shown<'_> {
     /// What the workers counted of the servers of these addresses.
     pub(crate) fn all<'a>(
         alloc: Global,
-        shared: &Shared,
+        shared: &SharedMeter,
         addresses: &'a [String],
     ) -> Result<Vec<Shown<'a>>, AllocError>
         ensures { IfOk result (λ servers.
@@ -62,7 +62,7 @@ impl Shown<'_> {
 
 impl Sums {
     /// What the workers of a server counted until now.
-    pub(crate) fn of(shared: &Shared) -> Sums {
+    pub(crate) fn of(shared: &SharedMeter) -> Sums {
         let mut sums = Sums {
             requests: 0,
             attempts: 0,
@@ -105,7 +105,7 @@ impl ServerReading {
     /// What each worker counted of a server.
     fn of_workers(
         alloc: Global,
-        shared: &Shared,
+        shared: &SharedMeter,
         server: usize,
     ) -> Result<Vec<ServerReading>, AllocError> {
         let mut parts = Vec::new(alloc);
@@ -137,7 +137,7 @@ impl ServerReading {
 
 /// The first of the workers that have a mark.
 fn first_marked(parts: &[ServerReading]) -> Option<ServerReading>
-    ensures { result ≡ find is_marked parts.now }
+    ensures { result ≡ find is_marked_reading parts.now }
 {
     for part in parts {
         if part.mark.is_set() {

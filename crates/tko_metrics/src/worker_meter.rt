@@ -1,6 +1,6 @@
 //! The numbers of one worker.
 ghost use Rattle.std.specs.Prelude.{◌≡◌};
-ghost use Rattle.tko_metrics.specs.Marks.{is_mark, number_of, since_after};
+ghost use Rattle.tko_metrics.specs.Marks.{is_mark, mark_number, since_after};
 ghost use Rattle.tko_metrics.specs.Metrics.{ending_word};
 
 use crate::counter::Counter;
@@ -152,7 +152,7 @@ fn since(was: Marking, since: u64, moment: u64) -> u64
 
 impl Marking {
     fn of(number: u64) -> Marking
-        ensures { (mark : Marking) → number ≡ number_of mark → result ≡ mark }
+        ensures { (mark : Marking) → number ≡ mark_number mark → result ≡ mark }
     {
         match number {
             0 => Marking::Up,
@@ -172,7 +172,7 @@ impl Marking {
     }
 
     fn number(self) -> u64
-        ensures { result ≡ number_of self }
+        ensures { result ≡ mark_number self }
     {
         match self {
             Marking::Up => 0,

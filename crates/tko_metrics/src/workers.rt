@@ -3,7 +3,7 @@ ghost use Rattle.std.specs.Prelude.{◌≡◌, ◌++◌, IfOk, OnOk, length, opt
 ghost use Rattle.tko_metrics.specs.Loads.{AreWorkersIf, gauge_of, gauge_text, loads_text, metric_of};
 
 use crate::load::WorkerLoad;
-use crate::meter::Shared;
+use crate::meter::SharedMeter;
 use crate::metrics::Metric;
 use crate::sample::{add_of_worker, begin};
 use std::alloc::{AllocError, Global};
@@ -51,7 +51,7 @@ impl WorkerReading {
     /// All workers, where one has told its load: then all are event-driven.
     pub(crate) fn all(
         alloc: Global,
-        shared: &Shared,
+        shared: &SharedMeter,
     ) -> Result<Option<Vec<WorkerReading>>, AllocError>
         ensures { IfOk result (λ workers. AreWorkersIf (length shared.now.workers.items)
             (option_map (λ each. each.items) workers)) }
@@ -70,7 +70,7 @@ impl WorkerReading {
 }
 
 /// Whether a worker has told its load.
-fn is_any_told(shared: &Shared) -> bool {
+fn is_any_told(shared: &SharedMeter) -> bool {
     for worker in shared.workers.iter() {
         if worker.load.is_told() {
             return true;

@@ -21,13 +21,13 @@ kind_word Probe = codes "probe"
 abbrev pub no_counts : Counts
 no_counts = record { request = 0; attempt = 0; skip = 0; reply = 0; no_server = 0; probe = 0 }
 
-abbrev pub number_of : Kind → Counts → ℕ
-number_of Request n = n.request
-number_of Attempt n = n.attempt
-number_of Skip n = n.skip
-number_of Reply n = n.reply
-number_of NoServer n = n.no_server
-number_of Probe n = n.probe
+abbrev pub number_of_kind : Kind → Counts → ℕ
+number_of_kind Request n = n.request
+number_of_kind Attempt n = n.attempt
+number_of_kind Skip n = n.skip
+number_of_kind Reply n = n.reply
+number_of_kind NoServer n = n.no_server
+number_of_kind Probe n = n.probe
 
 -- this number of the kind, and as many as before of every other
 abbrev pub with_number : Kind → ℕ → Counts → Counts
@@ -40,8 +40,8 @@ with_number Probe number n = record n { probe = number }
 
 -- `by` more of the kind, and as many as before of every other
 abbrev pub raised : Kind → ℕ → Counts → Counts
-raised kind by n = with_number kind (number_of kind n + by) n
+raised kind by n = with_number kind (number_of_kind kind n + by) n
 
 -- the same, but never more than the greatest number
 abbrev pub saturated : Kind → ℕ → Counts → Counts
-saturated kind by n = with_number kind (min (number_of kind n + by) most) n
+saturated kind by n = with_number kind (min (number_of_kind kind n + by) most) n

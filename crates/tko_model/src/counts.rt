@@ -1,6 +1,6 @@
 //! A number for each kind.
 ghost use Rattle.std.specs.Prelude.{◌≡◌, ◌+◌, ◌<◌, ◌↔◌, IfSome, None};
-ghost use Rattle.tko_model.specs.Numbers.{most, no_counts, number_of, raised, saturated, with_number};
+ghost use Rattle.tko_model.specs.Numbers.{most, no_counts, number_of_kind, raised, saturated, with_number};
 
 use crate::Kind;
 
@@ -32,7 +32,7 @@ impl Counts {
 
     /// The number of a kind.
     pub fn of(&self, kind: Kind) -> u64
-        ensures { result ≡ number_of kind self.now }
+        ensures { result ≡ number_of_kind kind self.now }
     {
         match kind {
             Kind::Request => self.request,
@@ -47,7 +47,7 @@ impl Counts {
     /// `by` more of a kind, or none where the number would come to more than 2^64 - 1.
     pub fn checked_add(self, kind: Kind, by: u64) -> Option<Counts>
         ensures some { IfSome result (λ counts. counts ≡ raised kind by self) }
-        ensures none { (result ≡ None) ↔ (most < number_of kind self + by) }
+        ensures none { (result ≡ None) ↔ (most < number_of_kind kind self + by) }
     {
         let number = self.of(kind).checked_add(by)?;
         Some(self.with(kind, number))

@@ -4,7 +4,7 @@ use Rattle.std.specs.Prelude.{unwrap_or, slice_set}
 use Rattle.tko_pipe.specs.declared.link.Link.{Link}
 use Rattle.tko_pipe.specs.declared.link.Link.TheVariants.{Connecting, Connected, Shut}
 use Rattle.tko_pipe.specs.declared.waiter.Waiter.{Waiter}
-use Rattle.tko_pipe.specs.Pipes.{PipeState, Pushing, begun}
+use Rattle.tko_pipe.specs.Pipes.{PipeState, Pushing, opened_pipe}
 use Rattle.tko_roster.proofs.SlotLemmas.{get_set_same, get_set_other}
 use Rattle.std.specs.Prelude.{Result, Ok, Err}
 use Rattle.tko_text.specs.declared.request.Request.{Request}
@@ -31,7 +31,7 @@ pub line_of_waits : (pipe : PipeState) → waiters (line_of pipe) ≡ pipe.waiti
 line_of_waits pipe = line_waits pipe.link pipe
 
 begun_waits : (limit : ℕ) (pipe : Option PipeState)
-    → (unwrap_or pipe (begun limit)).waiting ≡ waiting_on pipe
+    → (unwrap_or pipe (opened_pipe limit)).waiting ≡ waiting_on pipe
 begun_waits limit None = refl
 begun_waits limit (Some it) = refl
 

@@ -18,7 +18,7 @@ use Rattle.tko_mux.specs.Asks.{AskingActs, IsAskingCall}
 use Rattle.tko_mux.specs.Awaits.{IsAsking, IsTaking, times_due}
 use Rattle.tko_mux.specs.Lines.{LineState, waiters}
 use Rattle.tko_mux.specs.Linking.{AreLinked, IsAsker, IsLoose, awaited_at, awaited_by, waiters_at, waiters_on}
-use Rattle.tko_mux.specs.Muxes.{Calls, HasRequest, IsMade, IsPushedFor, IsStopped, MuxState, SendEnds}
+use Rattle.tko_mux.specs.Muxes.{Calls, HasRequest, IsMade, IsPushedFor, IsSendStopped, MuxState, SendEnds}
 use Rattle.tko_mux.proofs.LinkingLemmas.{asked_linked, last_linked, last_without, loose_awaits, taken_linked}
 use Rattle.tko_mux.proofs.LineLemmas.{others_wait, pushed_waits, set_waits}
 
@@ -28,7 +28,7 @@ pub told : {S P I O : Type 0} (acts : AskingActs S P I O) (awaited : S → List 
     (new : RosterState (Client S) P) → p ≡ old
     → given ≡ Outcome server Unsent
     → Calls acts awaited p.roster number given asked did new
-    → IsStopped acts awaited old number server did (record p { roster = new })
+    → IsSendStopped acts awaited old number server did (record p { roster = new })
 told {S} {P} {I} {O} acts awaited p old number server given asked did new same is made =
     let acted : Calls acts awaited p.roster number (Outcome server Unsent) asked did new =
     subst (λ (g : Given I). Calls acts awaited p.roster number g asked did new) is made in
@@ -36,7 +36,7 @@ told {S} {P} {I} {O} acts awaited p old number server given asked did new same i
     let Told : Option ℕ → Type 0 = λ it.
     Calls acts awaited p.roster number (Outcome server Unsent) it did new in
     let Stopped : MuxState S P → Type 0 = λ it.
-    IsStopped acts awaited it number server did (record p { roster = new }) in
+    IsSendStopped acts awaited it number server did (record p { roster = new }) in
     subst Stopped same (record { told = subst Told asks_none acted; kept = refl; limit = refl })
 
 -- a request that was in no queue stands at the end of the line of its server

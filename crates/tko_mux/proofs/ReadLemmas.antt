@@ -18,7 +18,7 @@ use Rattle.tko_mux.specs.Asks.{AskingActs}
 use Rattle.tko_mux.specs.Lines.{IsLinePushed, LineState, first_on, waiters, waiting_on}
 use Rattle.tko_mux.specs.Linking.{AreLinked, AwaitsBy, AwaitsFirst, IsFree, Linked, awaited_at}
 use Rattle.tko_mux.specs.Linking.{waiters_at, waiters_on}
-use Rattle.tko_mux.specs.Muxes.{HasNoneLeaving, IsRead, MuxState, Reaches, ReadsOn, WaitsFor}
+use Rattle.tko_mux.specs.Muxes.{GoesToClient, HasNoneLeaving, IsResponseRead, MuxState, ReadsOn, WaitsFor}
 use Rattle.tko_mux.proofs.LinkingLemmas.{IsWithout, first_awaits, first_loose, first_without}
 use Rattle.tko_mux.proofs.LinkingLemmas.{last_without, probe_linked, probe_taken, same_linked}
 use Rattle.tko_mux.proofs.LineLemmas.{OneLeaves, TakeLeaves, others_wait, pushed_waits}
@@ -191,13 +191,13 @@ pub reached : {S P I O : Type 0} (acts : AskingActs S P I O) (awaited : S → Li
     (result : Result (Option (Delivery O)) ShutCause) (new : MuxState S P) → p ≡ old
     → server < length p.lines → was ≡ slice_index_or p.lines server was
     → ReadsOn waits_for p.roster server was taken now → taken ≡ found
-    → Reaches acts awaited asks_for (record p { lines = slice_set p.lines server now }) server found
+    → GoesToClient acts awaited asks_for (record p { lines = slice_set p.lines server now }) server found
     due result new
-    → IsRead acts awaited asks_for waits_for old server due result new
+    → IsResponseRead acts awaited asks_for waits_for old server due result new
 reached {S} {P} {I} {O} acts awaited asks_for waits_for p old server due was now taken found result
     new same below read reads is reaches =
     let Read : MuxState S P → Type 0 = λ m.
-    IsRead acts awaited asks_for waits_for m server due result new in
+    IsResponseRead acts awaited asks_for waits_for m server due result new in
     subst Read same (record {
       taken = found;
       lines = slice_set p.lines server now;

@@ -7,7 +7,7 @@ use Rattle.tko_pipe.specs.declared.link.Link.TheVariants.{Connecting, Connected,
 use Rattle.tko_pipe.specs.declared.waiter.Asker.{Asker}
 use Rattle.tko_pipe.specs.declared.waiter.Waiter.{Waiter}
 use Rattle.tko_pipe.specs.Ends.{IsLeaving}
-use Rattle.tko_pipe.specs.Pipes.{IsLive, IsPushed, PipeState, Pushing, begun}
+use Rattle.tko_pipe.specs.Pipes.{IsLive, IsPushed, PipeState, Pushing, opened_pipe}
 
 -- the connection that requests go out on, and one that was shut, until all that waited on it have
 -- left
@@ -85,7 +85,7 @@ pub record IsOnLive (did : PipeState → PipeState → Type 0) (old new : LineSt
 pub record IsLinePushed (limit : ℕ) (old : LineState) (it : Pushing) (new : LineState) : Type 0
   where
     pub pipe : PipeState
-    pub pushed : IsPushed (unwrap_or old.pipe (begun limit)) it pipe
+    pub pushed : IsPushed (unwrap_or old.pipe (opened_pipe limit)) it pipe
     pub state : new ≡ record old { pipe = Some pipe }
 
 -- the next of those that waited on the connection that was shut left with this fate

@@ -63,8 +63,8 @@ IsAsker aw queue number None = Linked aw queue
 IsAsker aw queue number (Some server) = IsLoose aw queue number server
 
 -- the number has no session, or its session awaits a server
-abbrev pub IsKept : {S : Type 0} → (S → List ℕ) → List (Option (ClientOf S)) → ℕ → Type 0
-IsKept awaited slots number =
+abbrev pub IsNotForgotten : {S : Type 0} → (S → List ℕ) → List (Option (ClientOf S)) → ℕ → Type 0
+IsNotForgotten awaited slots number =
     (session_at slots number ≡ None) ⊎ (awaited_at awaited slots number ≢ [])
 
 -- one to whom something came from this server: a client, whose request is in no queue now; if it

@@ -60,15 +60,15 @@ pub record IsPushedFor {S P : Type 0} (asks_for : S → Option Request)
   pub pushed : IsLinePushed limit old (pushing (asker.Client number) due request) new
 
 -- the number's request goes out to this server
-pub record IsSent {S P : Type 0} (asks_for : S → Option Request) (old : MuxState S P) (number : ℕ)
-    (server due : ℕ) (new : MuxState S P) : Type 0 where
+pub record IsRequestSent {S P : Type 0} (asks_for : S → Option Request) (old : MuxState S P)
+    (number : ℕ) (server due : ℕ) (new : MuxState S P) : Type 0 where
   pub pushed : IsOnLine (λ was now. IsPushedFor asks_for old.roster old.limit number due was now)
       old.lines server new.lines
   pub kept : new.roster ≡ old.roster
   pub limit : new.limit ≡ old.limit
 
 -- memory ran out for the number's request to this server, which is told its session
-pub record IsStopped {S P I O : Type 0} (acts : AskingActs S P I O) (awaited : S → List ℕ)
+pub record IsSendStopped {S P I O : Type 0} (acts : AskingActs S P I O) (awaited : S → List ℕ)
     (old : MuxState S P) (number server : ℕ) (did : O) (new : MuxState S P) : Type 0 where
   pub told : Calls acts awaited old.roster number (Outcome server came.Unsent) None did new.roster
   pub kept : new.lines ≡ old.lines
@@ -81,9 +81,9 @@ abbrev pub SendEnds : {S P I O : Type 0} → AskingActs S P I O → (S → List 
 SendEnds acts awaited asks_for old number None due stopped new =
     (stopped ≡ None) × (new ≡ old)
 SendEnds acts awaited asks_for old number (Some server) due None new =
-    IsSent asks_for old number server due new
+    IsRequestSent asks_for old number server due new
 SendEnds acts awaited asks_for old number (Some server) due (Some did) new =
-    IsStopped acts awaited old number server did new
+    IsSendStopped acts awaited old number server did new
 
 -- the number's session makes this call, and whom it asks gets its request
 pub record IsMade {S P I O : Type 0} (acts : AskingActs S P I O) (awaited : S → List ℕ)
@@ -107,8 +107,8 @@ IsDelivered acts awaited asks_for old server by what due (Probed it) new =
     (by ≡ asker.Probe) × (it ≡ what) × (new ≡ old)
 
 -- nobody has a number, and there is no connection to any of so many servers
-abbrev pub begun_with : {S P : Type 0} → ℕ → P → ℕ → MuxState S P
-begun_with limit parts servers = record {
+abbrev pub begun_mux : {S P : Type 0} → ℕ → P → ℕ → MuxState S P
+begun_mux limit parts servers = record {
   limit = limit;
   roster = nobody parts;
   lines = replicate servers idle_line;
@@ -152,27 +152,27 @@ ReadsOn waits_for roster server old taken new =
     ReadsFirst waits_for roster server (first_on old.pipe) old taken new
 
 -- where the response that was read, if one was, goes
-abbrev pub Reaches : {S P I O : Type 0} → AskingActs S P I O → (S → List ℕ)
+abbrev pub GoesToClient : {S P I O : Type 0} → AskingActs S P I O → (S → List ℕ)
     → (S → Option Request) → MuxState S P → ℕ → Result (Option (Asker × Response)) ShutCause → ℕ
     → Result (Option (Delivery O)) ShutCause → MuxState S P → Type 0
-Reaches acts awaited asks_for mid server (Ok None) due result new =
+GoesToClient acts awaited asks_for mid server (Ok None) due result new =
     (result ≡ Ok None) × (new ≡ mid)
-Reaches acts awaited asks_for mid server (Err cause) due result new =
+GoesToClient acts awaited asks_for mid server (Err cause) due result new =
     (result ≡ Err cause) × (new ≡ mid)
-Reaches {S} {P} {I} {O} acts awaited asks_for mid server (Ok (Some taken)) due result new =
+GoesToClient {S} {P} {I} {O} acts awaited asks_for mid server (Ok (Some taken)) due result new =
     (delivery : Delivery O) × (result ≡ Ok (Some delivery))
     × IsDelivered acts awaited asks_for mid server taken.0 (came.Response taken.1) due delivery new
 
 -- a response of this server was looked for, to the first that waits for one, and reaches that
-pub record IsRead {S P I O : Type 0} (acts : AskingActs S P I O) (awaited : S → List ℕ)
+pub record IsResponseRead {S P I O : Type 0} (acts : AskingActs S P I O) (awaited : S → List ℕ)
     (asks_for : S → Option Request) (waits_for : WaitsFor S) (old : MuxState S P) (server due : ℕ)
     (result : Result (Option (Delivery O)) ShutCause) (new : MuxState S P) : Type 0 where
   pub taken : Result (Option (Asker × Response)) ShutCause
   pub lines : List LineState
   pub on : IsOnLine (λ was now. ReadsOn waits_for old.roster server was taken now) old.lines server
       lines
-  pub reaches : Reaches acts awaited asks_for (record old { lines = lines }) server taken due result
-      new
+  pub reaches : GoesToClient acts awaited asks_for (record old { lines = lines })
+      server taken due result new
 
 -- the next of those that waited on a connection to this server that was shut is told what became of
 -- its request
@@ -187,12 +187,12 @@ pub record IsTold {S P I O : Type 0} (acts : AskingActs S P I O) (awaited : S �
       (came.Fate fate) due delivery new
 
 -- the next that leaves is told, or nobody waits on a connection that was shut
-abbrev pub LeaveEnds : {S P I O : Type 0} → AskingActs S P I O → (S → List ℕ)
+abbrev pub TellEnds : {S P I O : Type 0} → AskingActs S P I O → (S → List ℕ)
     → (S → Option Request) → MuxState S P → ℕ → ℕ → Option (Delivery O) → MuxState S P → Type 0
-LeaveEnds acts awaited asks_for old server due None new =
+TellEnds acts awaited asks_for old server due None new =
     IsOnLine (λ was now. LineLeaves was None now) old.lines server new.lines
     × (new.roster ≡ old.roster) × (new.limit ≡ old.limit)
-LeaveEnds acts awaited asks_for old server due (Some delivery) new =
+TellEnds acts awaited asks_for old server due (Some delivery) new =
     IsTold acts awaited asks_for old server due delivery new
 
 -- nobody is left that waited on a connection to the server that was shut

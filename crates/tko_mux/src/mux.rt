@@ -4,8 +4,8 @@ ghost use Rattle.std.specs.Bool.{OnFalse, OnTrue};
 ghost use Rattle.tko_pipe.specs.Pipes.{pushing};
 ghost use Rattle.tko_roster.specs.Rosters.{AreReady, IfHas, IsAdmitted, IsReleased, session_at};
 ghost use Rattle.tko_mux.specs.Lines.{IsLinePushed, idle_line};
-ghost use Rattle.tko_mux.specs.Linking.{AreLinked, IsAsker, IsKept, IsLoose, awaited_at, waiters_at};
-ghost use Rattle.tko_mux.specs.Muxes.{HasRequest, IsMade, IsOnLine, IsPushedFor, IsSent, IsStopped, SendEnds, begun_with};
+ghost use Rattle.tko_mux.specs.Linking.{AreLinked, IsAsker, IsLoose, IsNotForgotten, awaited_at, waiters_at};
+ghost use Rattle.tko_mux.specs.Muxes.{HasRequest, IsMade, IsOnLine, IsPushedFor, IsRequestSent, IsSendStopped, SendEnds, begun_mux};
 
 mod delivery;
 mod wire;
@@ -17,7 +17,7 @@ use std::marker::Model;
 use tko_bytes::NoMemory;
 use tko_model::{Clear, Duty};
 use tko_pipe::Asker;
-use tko_roster::{Driven, Roster, Visit};
+use tko_roster::{Driven, PartsVisit, Roster};
 use tko_text::Request;
 
 /// The sessions by number, and for each server the connections that their requests go out on.
@@ -41,7 +41,7 @@ impl<P: Drop, S: Asking<P> + Drop> Mux<S, P> {
     /// Nobody has a number, and there is no connection to any of so many servers. If memory runs
     /// out, the parts come back.
     pub fn new(alloc: Global, parts: P, servers: usize, limit: u64) -> Result<Mux<S, P>, P>
-        ensures state { IfOk result (λ mux. mux ≡ begun_with limit parts servers) }
+        ensures state { IfOk result (λ mux. mux ≡ begun_mux limit parts servers) }
         ensures err { IfErr result (λ back. back ≡ parts) }
         ensures ready { IfOk result (λ mux. AreReady ⟦<Client<S> as Driven<P>>⟧.ready mux.roster) }
         ensures linked { IfOk result (λ mux. AreLinked S.awaited mux.roster.slots mux.lines) }
@@ -83,7 +83,7 @@ impl<P, S: Asking<P> + Drop> Mux<S, P> {
         ensures some { IfSome result (λ session. IsReleased ⟦<Client<S> as Driven<P>>⟧.awaited
             self.old.roster number (record { session = session }) self.new.roster) }
         ensures none { IfNone result ((self.new ≡ self.old)
-            × IsKept S.awaited self.old.roster.slots number) }
+            × IsNotForgotten S.awaited self.old.roster.slots number) }
         ensures lines { self.new.lines ≡ self.old.lines }
         ensures limit { self.new.limit ≡ self.old.limit }
         ensures ready { AreReady ⟦<Client<S> as Driven<P>>⟧.ready self.new.roster }
@@ -98,7 +98,7 @@ impl<P, S: Asking<P> + Drop> Mux<S, P> {
     /// Whether the number has a session, and no request of it is under way.
     pub fn is_idle(&self, number: usize) -> bool
         ensures idle { OnTrue result (awaited_at S.awaited self.now.roster.slots number ≡ []) }
-        ensures not { OnFalse result (IsKept S.awaited self.now.roster.slots number) }
+        ensures not { OnFalse result (IsNotForgotten S.awaited self.now.roster.slots number) }
     {
         match self.roster.get(number) {
             Some(client) => !client.session.is_waiting(),
@@ -180,7 +180,7 @@ impl<P, S: Asking<P> + Drop> Mux<S, P> {
     }
 
     /// Does something with the parts that all sessions share, which leaves them ready.
-    pub fn visit<V: Visit<P>>(&mut self, visit: V) -> V::Output
+    pub fn visit<V: PartsVisit<P>>(&mut self, visit: V) -> V::Output
         requires stays { (old new : P) → V.stays old new → S.stays old new }
         requires ready { AreReady ⟦<Client<S> as Driven<P>>⟧.ready self.old.roster }
         requires linked { AreLinked S.awaited self.old.roster.slots self.old.lines }
@@ -242,7 +242,7 @@ impl<P, S: Asking<P> + Drop> Mux<S, P> {
             (λ client. IsSome (S.asks_for client.session)) }
         requires loose { IsLoose (awaited_at S.awaited self.old.roster.slots)
             (waiters_at self.old.lines) number clear }
-        ensures sent { OnTrue result (IsSent S.asks_for self.old number clear due self.new) }
+        ensures sent { OnTrue result (IsRequestSent S.asks_for self.old number clear due self.new) }
         ensures linked { OnTrue result (AreLinked S.awaited self.new.roster.slots self.new.lines) }
         ensures not { OnFalse result (self.new ≡ self.old) }
         ensures roster { self.new.roster ≡ self.old.roster }
@@ -267,7 +267,7 @@ impl<P, S: Asking<P> + Drop> Mux<S, P> {
         requires loose { IsLoose (awaited_at S.awaited self.old.roster.slots)
             (waiters_at self.old.lines) number server }
         requires ready { AreReady ⟦<Client<S> as Driven<P>>⟧.ready self.old.roster }
-        ensures stopped { IsStopped S.acts S.awaited self.old number server result self.new }
+        ensures stopped { IsSendStopped S.acts S.awaited self.old number server result self.new }
         ensures ready { AreReady ⟦<Client<S> as Driven<P>>⟧.ready self.new.roster }
         ensures linked { AreLinked S.awaited self.new.roster.slots self.new.lines }
     {

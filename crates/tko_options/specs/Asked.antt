@@ -40,7 +40,8 @@ may_ask_at_once wanted = true
 
 -- a server asks for keys of one server by one `get` only where its workers may
 abbrev pub may_group_keys : Asked → Bool
-may_group_keys (asked.Serve options) = may_group options.mode options.keys_at_once options.group_keys
+may_group_keys (asked.Serve options) =
+    may_group options.mode options.keys_at_once options.group_keys
 may_group_keys wanted = true
 
 -- what was asked for is what clap finds in the words, as it reads the program

@@ -22,12 +22,12 @@ abbrev pub default_tries : Text
 default_tries = codes "8"
 
 -- the greatest number of an option of 32 bits
-abbrev pub max_number : ℕ
-max_number = 4294967295
+abbrev pub max_option_number : ℕ
+max_option_number = 4294967295
 
 -- a number of 32 bits
 abbrev pub any_number : ValueParser
-any_number = parser.Signed (pos 0) (pos max_number)
+any_number = parser.Signed (pos 0) (pos max_option_number)
 
 -- `--name VALUE`, a text that may be left out
 abbrev pub text_option : Text → Rule

@@ -13,8 +13,8 @@ use Rattle.tko_options.specs.declared.refusal.Refusal.TheVariants as refusal
 use Rattle.tko_options.specs.declared.serve_options.ServeOptions.{ServeOptions}
 
 -- what is wrong with the options of `serve`: a log that goes nowhere, a mode that is none, a limit
--- of clients, several keys at once or grouped keys in threads, or grouped keys where one is asked for
--- at once
+-- of clients, several keys at once or grouped keys in threads, or grouped keys where one is asked
+-- for at once
 pub data IsMisfit (found : Found) : Type 0 where
   LogNowhere : is_log_place (unwrap_or (first_value found (codes "log")) []) ≡ false
       → IsMisfit found

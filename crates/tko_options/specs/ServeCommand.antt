@@ -3,7 +3,7 @@ use Rattle.std.specs.Prelude.{ℕ, true, pos, Some, [], ◌∷◌, codes}
 use Rattle.clap.specs.Words.{App, Rule, Text, new_app, with_rule}
 use Rattle.clap.specs.declared.builder.value_parser.ValueParser.{ValueParser}
 use Rattle.clap.specs.declared.builder.value_parser.ValueParser.TheVariants as parser
-use Rattle.tko_options.specs.CommandLine.{any_number, config_file_option, max_number, number_option, required_config, switch_option, text_option, with_tracker}
+use Rattle.tko_options.specs.CommandLine.{any_number, config_file_option, max_option_number, number_option, required_config, switch_option, text_option, with_tracker}
 
 abbrev pub default_mode : Text
 default_mode = codes "events"
@@ -43,7 +43,7 @@ any_connections = parser.Unsigned 0 max_connections
 
 -- a number of 32 bits that is not 0
 abbrev pub any_from_one : ValueParser
-any_from_one = parser.Signed (pos 1) (pos max_number)
+any_from_one = parser.Signed (pos 1) (pos max_option_number)
 
 -- the option with such numbers alone
 abbrev pub from_one : Rule → Rule
@@ -98,15 +98,15 @@ abbrev pub limit_option : Text → Text → Rule
 limit_option name default = from_one (number_option name default)
 
 -- where it listens, and to whom it speaks
-abbrev pub with_ends : App → App
-with_ends app =
+abbrev pub with_address_options : App → App
+with_address_options app =
     with_rule (with_rule (with_rule app listen_option) required_config) config_file_option
 
 -- how it serves its clients, and how many
 abbrev pub with_clients : App → App
 with_clients app =
-    with_rule (with_rule (with_rule (with_rule (with_rule (with_rule app mode_option) threads_option)
-    clients_option) keys_option) group_option) connections_option
+    with_rule (with_rule (with_rule (with_rule (with_rule (with_rule app mode_option)
+    threads_option) clients_option) keys_option) group_option) connections_option
 
 -- how long it waits for a client
 abbrev pub with_patience : App → App
@@ -128,4 +128,5 @@ with_reports app = with_rule (with_rule app log_option) metrics_option
 abbrev pub serve_command : App
 serve_command =
     with_reports
-    (with_tracker (with_times (with_patience (with_clients (with_ends (new_app (codes "serve")))))))
+    (with_tracker (with_times (with_patience (with_clients
+    (with_address_options (new_app (codes "serve")))))))

@@ -83,8 +83,8 @@ impl ServeOptions {
         Err(Refusal::by(alloc, ErrorKind::ArgumentConflict, KEYS_IN_THREADS))
     }
 
-    /// Refuses that keys of a request go out as one `get` in threads, or where they are asked for one
-    /// after another.
+    /// Refuses that keys of a request go out as one `get` in threads, or where they are asked for
+    /// one after another.
     fn check_groups(&self, alloc: Global) -> Result<(), Refusal>
         ensures ok { OnOk result
             (may_group self.now.mode self.now.keys_at_once self.now.group_keys ≡ true) }

@@ -2,7 +2,7 @@
 ghost use Rattle.std.specs.Prelude.{◌≡◌, false, IfOk, codes};
 ghost use Rattle.clap.specs.Words.{App, rule_of};
 ghost use Rattle.tko_options.specs.CommandLine.{IsOption, ReadsAs, config_file_option, number_option, required_config};
-ghost use Rattle.tko_options.specs.ServeCommand.{default_timeout, from_one, limit_option, listen_option, log_option, metrics_option, serve_command, with_ends, with_reports, with_times};
+ghost use Rattle.tko_options.specs.ServeCommand.{default_timeout, from_one, limit_option, listen_option, log_option, metrics_option, serve_command, with_address_options, with_reports, with_times};
 
 use crate::command_line::{number, text, with_tracker};
 use crate::serve_clients::{with_clients, with_patience};
@@ -48,7 +48,8 @@ pub(crate) fn serve<'a>(alloc: Global) -> Result<Command<'a>, AllocError>
 
 /// With its address and its configuration.
 fn with_ends<'a>(alloc: Global, command: Command<'a>) -> Result<Command<'a>, AllocError>
-    ensures { (app : App) → ReadsAs app command.entry → IfOk result (ReadsAs (with_ends app)) }
+    ensures { (app : App) → ReadsAs app command.entry
+        → IfOk result (ReadsAs (with_address_options app)) }
 {
     command
         .arg(listen(alloc))?

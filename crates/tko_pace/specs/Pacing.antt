@@ -21,9 +21,9 @@ taken count None = None
 taken count (Some span) = Some (record span { missing = span.missing - count })
 
 -- so long no replies were to be taken in a span, so that it ends later
-abbrev pub delayed : ℕ → Option Span → Option Span
-delayed time None = None
-delayed time (Some span) = Some (record span { began = min (span.began + time) last_moment })
+abbrev pub span_delayed : ℕ → Option Span → Option Span
+span_delayed time None = None
+span_delayed time (Some span) = Some (record span { began = min (span.began + time) last_moment })
 
 -- replies wait in a span that lasts too long by now, and the client took too little in it
 abbrev pub IsSlowIn : Option Span → ℕ → ℕ → Type 0

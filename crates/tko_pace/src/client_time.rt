@@ -1,12 +1,12 @@
 //! The time of a client that is looked at now and then.
 ghost use Rattle.std.specs.Prelude.{◌≡◌, ◌↔◌, IsFalse, None};
-ghost use Rattle.tko_pace.specs.ClientTimes.{IsSilentAt, IsSlowAt, after_look, is_in_time, is_quiet};
+ghost use Rattle.tko_pace.specs.ClientTimes.{IsSilentAt, IsSlowAt, after_time_look, is_in_time, is_quiet};
 
 use crate::{Pace, is_over};
 
 /// How far a client is.
 #[derive(Clone, Copy, Debug, PartialEq, Eq)]
-pub struct Progress {
+pub struct ClientProgress {
     /// How many of its requests were answered.
     pub requests: u64,
     /// How many bytes of its replies it took.
@@ -69,10 +69,10 @@ impl ClientTime {
     /// for `idle` milliseconds. A limit of 0 is none. While a request of it is under way and while
     /// replies wait, no time passes in which it completes none; and while a request of it is under
     /// way, no replies are offered to it, so that it need not take any.
-    pub fn look(&mut self, now: u64, progress: Progress, idle: u32) -> Verdict
+    pub fn look(&mut self, now: u64, progress: ClientProgress, idle: u32) -> Verdict
         ensures silent { (result ≡ Verdict.Silent) ↔ IsSilentAt idle now progress self.old }
         ensures slow { (result ≡ Verdict.Slow) ↔ IsSlowAt now progress self.old }
-        ensures time { self.new ≡ after_look (is_in_time result) now progress self.old }
+        ensures time { self.new ≡ after_time_look (is_in_time result) now progress self.old }
     {
         let is_quiet = self.is_quiet(progress);
         let is_silent = is_quiet && is_over(idle, self.since, now);
@@ -89,16 +89,16 @@ impl ClientTime {
     }
 
     /// Whether it could have sent a request since the last look, and completed none.
-    fn is_quiet(&self, progress: Progress) -> bool
+    fn is_quiet(&self, progress: ClientProgress) -> bool
         ensures { result ≡ is_quiet progress self.now }
     {
         self.requests == progress.requests && !progress.is_asking && progress.waiting == 0
     }
 
     /// Learns how far it is. Returns whether it takes its replies in time.
-    fn take(&mut self, now: u64, progress: Progress) -> bool
+    fn take(&mut self, now: u64, progress: ClientProgress) -> bool
         ensures slow { IsFalse result ↔ IsSlowAt now progress self.old }
-        ensures time { self.new ≡ record (after_look result now progress self.old) {
+        ensures time { self.new ≡ record (after_time_look result now progress self.old) {
           since = self.old.since;
         } }
     {

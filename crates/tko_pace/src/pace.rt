@@ -1,6 +1,6 @@
 //! How fast a client takes its replies.
 ghost use Rattle.std.specs.Prelude.{◌≡◌, ◌-◌, ◌==◌, ◌↔◌, nat_lt, if◌then◌else◌, IsFalse, None};
-ghost use Rattle.tko_pace.specs.Pacing.{IsSlow, delayed, fresh_span, paced, taken};
+ghost use Rattle.tko_pace.specs.Pacing.{IsSlow, fresh_span, paced, span_delayed, taken};
 
 /// How many bytes a client must take in each span of time while replies wait.
 const LEAST: u64 = 65_536;
@@ -65,7 +65,7 @@ impl Pace {
 
     /// For so long the client was offered no replies, which does not count.
     pub fn delay(&mut self, time: u64)
-        ensures { self.new ≡ record self.old { span = delayed time self.old.span } }
+        ensures { self.new ≡ record self.old { span = span_delayed time self.old.span } }
     {
         if let Some(span) = &mut self.span {
             span.began = span.began.saturating_add(time);

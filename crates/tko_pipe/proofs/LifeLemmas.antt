@@ -9,21 +9,21 @@ use Rattle.tko_model.proofs.RecordLemmas.{gains_none}
 use Rattle.tko_text.specs.Requests.{request_text}
 use Rattle.tko_pipe.specs.declared.waiter.Waiter.{Waiter}
 use Rattle.tko_pipe.specs.Fates.{fates_of, leaving}
-use Rattle.tko_pipe.specs.Lives.{Got, IsAnswer, IsEnd, IsLife, IsPipeStep, Left, PipeItem, Pushed}
-use Rattle.tko_pipe.specs.Lives.{Took, WasConnected, WasShut, Wrote, answered_in, asked_in}
-use Rattle.tko_pipe.specs.Lives.{heard_after, left_in, read_in, responses_in, texts_in, took_in}
+use Rattle.tko_pipe.specs.Lives.{Got, IsEnd, IsLife, IsPipeStep, IsTakenResponse, Left, PipeItem, Pushed}
+use Rattle.tko_pipe.specs.Lives.{Took, WasConnected, WasShut, Wrote, answered_in, askers_in}
+use Rattle.tko_pipe.specs.Lives.{bytes_read_in, heard_after, left_in, responses_in, texts_in, took_in}
 use Rattle.tko_pipe.specs.Lives.{unanswered_in, unread_dropped, unwritten_dropped, written_in}
-use Rattle.tko_pipe.specs.Pipes.{IsLive, PipeState, begun, lengths_of}
+use Rattle.tko_pipe.specs.Pipes.{IsLive, PipeState, lengths_of, opened_pipe}
 use Rattle.tko_pipe.proofs.LeavingLemmas.{leaves}
 
 -- what the items lead to, from a connection that was not shut
 record Leads (old : PipeState) (items : List PipeItem) (new : PipeState) : Type 0 where
-  queue : old.waiting ++ asked_in items
+  queue : old.waiting ++ askers_in items
       ≡ answered_in items ++ unanswered_in items ++ new.waiting
   written : old.unwritten ++ texts_in items
       ≡ written_in items ++ unwritten_dropped items ++ new.unwritten
-  read : old.unread ++ read_in items ≡ responses_in items ++ unread_dropped items ++ new.unread
-  answers : All IsAnswer (flat_map took_in items)
+  read : old.unread ++ bytes_read_in items ≡ responses_in items ++ unread_dropped items ++ new.unread
+  answers : All IsTakenResponse (flat_map took_in items)
   asked_first : length old.unwritten ≤ lengths_of old.waiting
       → lengths_of (answered_in items) + length old.unwritten
       ≤ length (written_in items) + lengths_of old.waiting
@@ -35,7 +35,7 @@ leads_none old new live e = record {
   queue = append-nil old.waiting ∙ sym (ap (λ (s : PipeState). s.waiting) e);
   written = append-nil old.unwritten ∙ sym (ap (λ (s : PipeState). s.unwritten) e);
   read = append-nil old.unread ∙ sym (ap (λ (s : PipeState). s.unread) e);
-  answers = All-nil IsAnswer;
+  answers = All-nil IsTakenResponse;
   asked_first = λ within. omega (arith, within);
   heard = ap (λ (s : PipeState). s.heard) e;
   end = inl (subst (λ (s : PipeState). IsLive s.link) (sym e) live);
@@ -78,9 +78,9 @@ leads old new (WasConnected ∷ items) live (mid, step, more) =
     (subst (λ (s : PipeState). IsLive s.link) (sym step.state) tt) more in
     let same = step.state in
     record {
-      queue = ap (λ (s : PipeState). s.waiting ++ asked_in items) (sym same) ∙ rest.queue;
+      queue = ap (λ (s : PipeState). s.waiting ++ askers_in items) (sym same) ∙ rest.queue;
       written = ap (λ (s : PipeState). s.unwritten ++ texts_in items) (sym same) ∙ rest.written;
-      read = ap (λ (s : PipeState). s.unread ++ read_in items) (sym same) ∙ rest.read;
+      read = ap (λ (s : PipeState). s.unread ++ bytes_read_in items) (sym same) ∙ rest.read;
       answers = rest.answers;
       asked_first = subst (λ (s : PipeState). length s.unwritten ≤ lengths_of s.waiting
           → lengths_of (answered_in items) + length s.unwritten
@@ -104,11 +104,11 @@ leads old new (Pushed it ∷ items) live (mid, step, more) =
     let len : length mid.unwritten ≡ length old.unwritten + length text =
     ap length unwritten ∙ length-append old.unwritten text in
     record {
-      queue = sym (append_assoc old.waiting (it.waiter ∷ []) (asked_in items))
-          ∙ ap (λ (w : List Waiter). w ++ asked_in items) (sym waiting) ∙ rest.queue;
+      queue = sym (append_assoc old.waiting (it.waiter ∷ []) (askers_in items))
+          ∙ ap (λ (w : List Waiter). w ++ askers_in items) (sym waiting) ∙ rest.queue;
       written = sym (append_assoc old.unwritten text (texts_in items))
           ∙ ap (λ (w : List ℕ). w ++ texts_in items) (sym unwritten) ∙ rest.written;
-      read = ap (λ (s : PipeState). s.unread ++ read_in items) (sym step.state) ∙ rest.read;
+      read = ap (λ (s : PipeState). s.unread ++ bytes_read_in items) (sym step.state) ∙ rest.read;
       answers = rest.answers;
       asked_first = λ within.
           let now_within : length mid.unwritten ≤ lengths_of mid.waiting =
@@ -126,12 +126,12 @@ leads old new (Wrote bytes ∷ items) live (mid, step, more) =
     let wrote : length (bytes ++ written_in items) ≡ length bytes + length (written_in items) =
     length-append bytes (written_in items) in
     record {
-      queue = ap (λ (w : List Waiter). w ++ asked_in items) (sym waiting) ∙ rest.queue;
+      queue = ap (λ (w : List Waiter). w ++ askers_in items) (sym waiting) ∙ rest.queue;
       written = ap (λ (w : List ℕ). w ++ texts_in items) step.front
           ∙ append_assoc bytes mid.unwritten (texts_in items)
           ∙ ap (λ (w : List ℕ). bytes ++ w) rest.written
           ∙ to_front bytes (written_in items) (unwritten_dropped items) new.unwritten;
-      read = ap (λ (s : PipeState). s.unread ++ read_in items) (sym step.state) ∙ rest.read;
+      read = ap (λ (s : PipeState). s.unread ++ bytes_read_in items) (sym step.state) ∙ rest.read;
       answers = rest.answers;
       asked_first = λ within.
           let lengths : lengths_of mid.waiting ≡ lengths_of old.waiting = ap lengths_of waiting in
@@ -147,10 +147,10 @@ leads old new (Got bytes now ∷ items) live (mid, step, more) =
     let same = step.state in
     let unread : mid.unread ≡ old.unread ++ bytes = ap (λ (s : PipeState). s.unread) same in
     record {
-      queue = ap (λ (s : PipeState). s.waiting ++ asked_in items) (sym same) ∙ rest.queue;
+      queue = ap (λ (s : PipeState). s.waiting ++ askers_in items) (sym same) ∙ rest.queue;
       written = ap (λ (s : PipeState). s.unwritten ++ texts_in items) (sym same) ∙ rest.written;
-      read = sym (append_assoc old.unread bytes (read_in items))
-          ∙ ap (λ (w : List ℕ). w ++ read_in items) (sym unread) ∙ rest.read;
+      read = sym (append_assoc old.unread bytes (bytes_read_in items))
+          ∙ ap (λ (w : List ℕ). w ++ bytes_read_in items) (sym unread) ∙ rest.read;
       answers = rest.answers;
       asked_first = subst (λ (s : PipeState). length s.unwritten ≤ lengths_of s.waiting
           → lengths_of (answered_in items) + length s.unwritten
@@ -170,14 +170,14 @@ leads old new (Took it ∷ items) live (mid, step, more) =
     sum_by-cons (λ one. one.len) it.waiter (answered_in items) in
     let len : length mid.unwritten ≡ length old.unwritten = ap length unwritten in
     record {
-      queue = ap (λ (w : List Waiter). w ++ asked_in items) step.first
+      queue = ap (λ (w : List Waiter). w ++ askers_in items) step.first
           ∙ ap (λ (w : List Waiter). it.waiter ∷ w) rest.queue;
       written = ap (λ (w : List ℕ). w ++ texts_in items) (sym unwritten) ∙ rest.written;
-      read = ap (λ (w : List ℕ). w ++ read_in items) step.front
-          ∙ append_assoc it.bytes mid.unread (read_in items)
+      read = ap (λ (w : List ℕ). w ++ bytes_read_in items) step.front
+          ∙ append_assoc it.bytes mid.unread (bytes_read_in items)
           ∙ ap (λ (w : List ℕ). it.bytes ++ w) rest.read
           ∙ to_front it.bytes (responses_in items) (unread_dropped items) new.unread;
-      answers = All-cons IsAnswer it (flat_map took_in items) step.response rest.answers;
+      answers = All-cons IsTakenResponse it (flat_map took_in items) step.response rest.answers;
       asked_first = λ within.
           let now_within : length mid.unwritten ≤ lengths_of mid.waiting =
           omega (arith, step.written, len) in
@@ -196,12 +196,12 @@ leads old new (WasShut it ∷ items) live (mid, step, more) =
           (ap (λ xs. flat_map (λ one. request_text one.request) xs) rest.pushed) rest.wrote
           (ap (λ xs. flat_map (λ one. one.unwritten) xs) rest.was_shut)
           (rest.unwritten ∙ ap (λ (s : PipeState). s.unwritten) step.state) step.unwritten;
-      read = all_dropped old.unread it.unread (read_in items) (responses_in items)
+      read = all_dropped old.unread it.unread (bytes_read_in items) (responses_in items)
           (unread_dropped items) new.unread rest.got
           (ap (λ xs. flat_map (λ one. one.bytes) xs) rest.took)
           (ap (λ xs. flat_map (λ one. one.unread) xs) rest.was_shut)
           (rest.unread ∙ ap (λ (s : PipeState). s.unread) step.state) step.unread;
-      answers = subst (All IsAnswer) (sym rest.took) (All-nil IsAnswer);
+      answers = subst (All IsTakenResponse) (sym rest.took) (All-nil IsTakenResponse);
       asked_first = λ within.
           let answered : lengths_of (answered_in items) ≡ 0 =
           ap (λ xs. lengths_of (map (λ one. one.waiter) xs)) rest.took in
@@ -223,9 +223,9 @@ leads old new (Left it ∷ items) live (mid, step, more) = absurd (subst IsLive 
 
 -- the law of a connection's life
 pub lives : (limit : ℕ) (items : List PipeItem) (state : PipeState)
-    → Gains IsPipeStep (begun limit) items state → IsLife limit items state
+    → Gains IsPipeStep (opened_pipe limit) items state → IsLife limit items state
 lives limit items state gains =
-    let all = leads (begun limit) state items tt gains.leads in
+    let all = leads (opened_pipe limit) state items tt gains.leads in
     record {
       queue = all.queue;
       written = all.written;

@@ -9,7 +9,7 @@ use Rattle.tko_pipe.specs.declared.fates.Fates.{Fates}
 use Rattle.tko_pipe.specs.declared.fates.ShutCause.TheVariants.{Unasked}
 use Rattle.tko_pipe.specs.declared.link.Link.{Link}
 use Rattle.tko_pipe.specs.declared.link.Link.TheVariants.{Connected, Shut}
-use Rattle.tko_pipe.specs.Ends.{IsAnswered, IsChecked, IsLeaving}
+use Rattle.tko_pipe.specs.Ends.{IsChecked, IsFirstAnswered, IsLeaving}
 use Rattle.tko_pipe.specs.Fates.{Leaving, fate_at, fates_of}
 use Rattle.tko_pipe.specs.Fronts.{IsFront}
 use Rattle.tko_pipe.specs.Pipes.{IsLive, IsTaken, PipeState, Taking, is_asked, lengths_of, shut_by}
@@ -57,7 +57,7 @@ pub answered : (p old : PipeState) (request : Request) (waiter : Waiter) (others
     then p.link else Shut (fates_of p.link Unasked))
     → unwritten ≡ (if is_asked left others p.unwritten then p.unwritten else [])
     → unread ≡ (if is_asked left others p.unwritten then left else [])
-    → IsAnswered old request waiter.by response
+    → IsFirstAnswered old request waiter.by response
     (record p { link = link; waiting = others; unwritten = unwritten; unread = unread })
 answered p old request waiter others response left link unwritten unread same connected waiting
     some asked front a b c =
@@ -79,7 +79,7 @@ answered p old request waiter others response left link unwritten unread same co
       response = front.is_response;
       state = refl;
     } in
-    let is : IsAnswered p request waiter.by response new = record {
+    let is : IsFirstAnswered p request waiter.by response new = record {
       waiter = waiter;
       bytes = front.bytes;
       mid = mid;
@@ -88,7 +88,7 @@ answered p old request waiter others response left link unwritten unread same co
       checked = checked (is_asked left others p.unwritten) mid link unwritten unread connected a b
           c;
     } in
-    subst (λ (s : PipeState). IsAnswered s request waiter.by response new) same is
+    subst (λ (s : PipeState). IsFirstAnswered s request waiter.by response new) same is
 
 -- the first of those that are left leaves
 pub left_first : (p old : PipeState) (left next_fates : Fates) (waiter : Waiter)

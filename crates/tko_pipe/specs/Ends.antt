@@ -29,7 +29,7 @@ IsChecked true mid new = new ≡ mid
 IsChecked false mid new = IsShut mid (shutting mid Unasked) new
 
 -- the first that waited was answered
-pub record IsAnswered (old : PipeState) (request : Request) (by : Asker) (response : Response)
+pub record IsFirstAnswered (old : PipeState) (request : Request) (by : Asker) (response : Response)
     (new : PipeState) : Type 0 where
   pub waiter : Waiter
   pub bytes : List ℕ
@@ -43,7 +43,7 @@ pub record IsAnswered (old : PipeState) (request : Request) (by : Asker) (respon
 -- shut, since no response to this request came, or since there was no memory for it
 abbrev pub TakeEnds : PipeState → Request → Result (Option (Asker × Response)) ShutCause → PipeState
     → Type 0
-TakeEnds old request (Ok (Some taken)) new = IsAnswered old request taken.0 taken.1 new
+TakeEnds old request (Ok (Some taken)) new = IsFirstAnswered old request taken.0 taken.1 new
 TakeEnds old request (Ok None) new =
     (new ≡ old) × ((old.unread ≡ []) ⊎ ReadsResponse request old.unread (Err fault.Short))
 TakeEnds old request (Err Unreadable) new =

@@ -7,7 +7,7 @@ use Rattle.tko_pipe.specs.declared.waiter.Waiter.{Waiter}
 use Rattle.tko_pipe.specs.declared.link.Link.{Link}
 use Rattle.tko_pipe.specs.declared.link.Link.TheVariants.{Connecting, Connected, Shut}
 use Rattle.tko_pipe.specs.Fates.{Leaving, fates_of, leaving}
-use Rattle.tko_pipe.specs.Pipes.{IsCause, IsConnected, IsGot, IsLeft, IsLive, IsPushed, IsShut, IsTaken, IsWritten, PipeState, Pushing, Shutting, Taking, begun, lengths_of}
+use Rattle.tko_pipe.specs.Pipes.{IsCause, IsConnected, IsGot, IsLeft, IsLive, IsPushed, IsShut, IsTaken, IsWritten, PipeState, Pushing, Shutting, Taking, lengths_of, opened_pipe}
 
 -- what was done with a connection
 pub data PipeItem : Type 0 where
@@ -59,8 +59,8 @@ heard_after heard (Got bytes now ∷ items) = heard_after (Some now) items
 heard_after heard (_ ∷ items) = heard_after heard items
 
 -- who asked, who was answered, and who left without an answer, in order
-abbrev pub asked_in : List PipeItem → List Waiter
-asked_in items = map (λ it. it.waiter) (flat_map pushed_in items)
+abbrev pub askers_in : List PipeItem → List Waiter
+askers_in items = map (λ it. it.waiter) (flat_map pushed_in items)
 
 abbrev pub answered_in : List PipeItem → List Waiter
 answered_in items = map (λ it. it.waiter) (flat_map took_in items)
@@ -75,8 +75,8 @@ texts_in items = flat_map (λ it. request_text it.request) (flat_map pushed_in i
 abbrev pub written_in : List PipeItem → List ℕ
 written_in items = flat_map wrote_in items
 
-abbrev pub read_in : List PipeItem → List ℕ
-read_in items = flat_map got_in items
+abbrev pub bytes_read_in : List PipeItem → List ℕ
+bytes_read_in items = flat_map got_in items
 
 -- the bytes of the responses, in order
 abbrev pub responses_in : List PipeItem → List ℕ
@@ -90,8 +90,8 @@ abbrev pub unread_dropped : List PipeItem → List ℕ
 unread_dropped items = flat_map (λ it. it.unread) (flat_map shut_in items)
 
 -- the response is that of the request
-abbrev pub IsAnswer : Taking → Type 0
-IsAnswer it = IsResponse it.request it.bytes it.response
+abbrev pub IsTakenResponse : Taking → Type 0
+IsTakenResponse it = IsResponse it.request it.bytes it.response
 
 -- those that a connection that was shut still leaves
 abbrev pub leaving_in : Link → List Waiter → List Leaving
@@ -116,14 +116,14 @@ pub record IsEnd (first : PipeState) (items : List PipeItem) (state : PipeState)
 -- What the items of a connection mean that is now in this state.
 pub record IsLife (limit : ℕ) (items : List PipeItem) (state : PipeState) : Type 0 where
   -- the k-th that asked was answered, left, or waits as the k-th
-  pub queue : asked_in items ≡ answered_in items ++ unanswered_in items ++ state.waiting
+  pub queue : askers_in items ≡ answered_in items ++ unanswered_in items ++ state.waiting
   -- what was written is a beginning of the requests' texts; the rest waits or was dropped
   pub written : texts_in items ≡ written_in items ++ unwritten_dropped items ++ state.unwritten
   -- what was read are the responses' bytes, one after another, and bytes of which none was taken
-  pub read : read_in items ≡ responses_in items ++ unread_dropped items ++ state.unread
+  pub read : bytes_read_in items ≡ responses_in items ++ unread_dropped items ++ state.unread
   -- each response is that of the request that was lent
-  pub answers : All IsAnswer (flat_map took_in items)
+  pub answers : All IsTakenResponse (flat_map took_in items)
   -- at each moment, the requests that were answered were written wholly
   pub asked_first : lengths_of (answered_in items) ≤ length (written_in items)
   pub heard : state.heard ≡ heard_after None items
-  pub end : IsLive state.link ⊎ IsEnd (begun limit) items state
+  pub end : IsLive state.link ⊎ IsEnd (opened_pipe limit) items state

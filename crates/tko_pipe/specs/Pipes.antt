@@ -25,8 +25,8 @@ pub record PipeState : Type 0 where
   pub heard : Option ℕ
 
 -- a connection that is being made
-abbrev pub begun : ℕ → PipeState
-begun limit = record {
+abbrev pub opened_pipe : ℕ → PipeState
+opened_pipe limit = record {
   limit = limit;
   link = Connecting;
   waiting = [];
@@ -42,10 +42,10 @@ IsLive Connected = Unit {0}
 IsLive (Shut left) = ⊥
 
 -- only on a connection that is there bytes are unread
-abbrev pub IsRead : Link → List ℕ → Type 0
-IsRead Connecting unread = unread ≡ []
-IsRead Connected unread = Unit {0}
-IsRead (Shut left) unread = unread ≡ []
+abbrev pub MayBeUnread : Link → List ℕ → Type 0
+MayBeUnread Connecting unread = unread ≡ []
+MayBeUnread Connected unread = Unit {0}
+MayBeUnread (Shut left) unread = unread ≡ []
 
 -- how long the texts of those that wait are
 abbrev pub lengths_of : List Waiter → ℕ

@@ -3,7 +3,7 @@ ghost use Rattle.std.specs.Prelude.{◌≡◌, ◌≤◌, ◌<◌, ℕ, List, []
 ghost use Rattle.std.specs.Option.{option_copied};
 ghost use Rattle.tko_pipe.specs.Ends.{ExpireEnds, GotEnds, LeaveEnds, TakeEnds};
 ghost use Rattle.tko_pipe.specs.Fates.{fates_of};
-ghost use Rattle.tko_pipe.specs.Pipes.{IsCause, IsConnected, IsLive, IsPushed, IsShut, IsWritten, begun, is_asked, is_first_written, is_silent, lengths_of, pushing, shutting};
+ghost use Rattle.tko_pipe.specs.Pipes.{IsCause, IsConnected, IsLive, IsPushed, IsShut, IsWritten, is_asked, is_first_written, is_silent, lengths_of, opened_pipe, pushing, shutting};
 
 use crate::byte_queue::ByteQueue;
 use crate::{Asker, Fate, Fates, Link, ShutCause, Waiter};
@@ -35,7 +35,7 @@ pub struct Pipe {
 
 impl Model for Pipe {
     ghost use Rattle.std.specs.Prelude.{◌≡◌, true};
-    ghost use Rattle.tko_pipe.specs.Pipes.{IsRead, PipeState, is_asked, lengths_of};
+    ghost use Rattle.tko_pipe.specs.Pipes.{MayBeUnread, PipeState, is_asked, lengths_of};
 
     ghost Value = { PipeState };
 
@@ -50,13 +50,13 @@ impl Model for Pipe {
 
     ghost invariant = { λ p. (p.queued ≡ lengths_of p.waiting.items)
         × (is_asked p.unread p.waiting.items p.unwritten ≡ true)
-        × IsRead p.link p.unread };
+        × MayBeUnread p.link p.unread };
 }
 
 impl Pipe {
     /// A connection that is being made, on which a response may take `limit` milliseconds.
     pub fn new(alloc: Global, limit: u64) -> Pipe
-        ensures { result ≡ begun limit }
+        ensures { result ≡ opened_pipe limit }
     {
         Pipe {
             limit,

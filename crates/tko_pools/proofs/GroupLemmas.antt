@@ -5,39 +5,39 @@ use Rattle.std.specs.List.{filter, position, range_with_len}
 use Rattle.std.proofs.lemmas.Bool.{cases_Bool, eqb-true, ne_eqb}
 use Rattle.std.proofs.lemmas.List.{append-nil, length-map, map-id}
 use Rattle.std.proofs.lemmas.List.FromFn.{map-range_with_len_more, filter_of_map_range_with_len_more, length-range_with_len}
-use Rattle.tko_pools.specs.Groups.{first_place, is_in, owner_of, owners_of, owning}
+use Rattle.tko_pools.specs.Groups.{first_child_with, first_place, is_number_in, owners_of, owning}
 use Rattle.tko_pools.proofs.NumberingLemmas.{position_map}
 
 -- the place of the first child, where its lists are those of values
 pub owner-of-lists : {X : Type 0} (items : X → List ℕ) (children : List X) (server : ℕ)
-    → unwrap_or (position (λ child. is_in (items child) server) children) (length children)
-    ≡ owner_of (map items children) server
+    → unwrap_or (position (λ child. is_number_in (items child) server) children) (length children)
+    ≡ first_child_with (map items children) server
 owner-of-lists items children server =
-    rw (position_map (λ child. is_in child server) items children, length-map children items) refl
+    rw (position_map (λ child. is_number_in child server) items children, length-map children items) refl
 
 -- the owners of one more server
 pub owners-more : (children : List (List ℕ)) (servers : ℕ) (owners all : List ℕ) (owner : ℕ)
-    → owners ≡ owners_of children servers → owner ≡ owner_of children servers
+    → owners ≡ owners_of children servers → owner ≡ first_child_with children servers
     → all ≡ owners ++ owner ∷ [] → all ≡ owners_of children (servers + 1)
 owners-more children servers owners all owner before last e =
-    let more = map-range_with_len_more (owner_of children) 0 servers servers (omega arith) in
+    let more = map-range_with_len_more (first_child_with children) 0 servers servers (omega arith) in
     rw (e, before, last) (sym more)
 
 -- the owners among one more place
 places-more : (owners : List ℕ) (place : ℕ)
-    → owning owners (place + 1) ≡ owning owners place ++ cond (is_in owners place) (place ∷ []) []
+    → owning owners (place + 1) ≡ owning owners place ++ cond (is_number_in owners place) (place ∷ []) []
 places-more owners place =
-    let more = filter_of_map_range_with_len_more (is_in owners) (λ i. i) 0 place place (omega arith) in
+    let more = filter_of_map_range_with_len_more (is_number_in owners) (λ i. i) 0 place place (omega arith) in
     rw (map-id (range_with_len 0 (place + 1)), map-id (range_with_len 0 place)) at more
 
 pub one-more-place : (owners : List ℕ) (place : ℕ) (places all : List ℕ)
-    → places ≡ owning owners place → is_in owners place ≡ true → all ≡ places ++ place ∷ []
+    → places ≡ owning owners place → is_number_in owners place ≡ true → all ≡ places ++ place ∷ []
     → all ≡ owning owners (place + 1)
 one-more-place owners place places all before owns e =
     rw (e, before, places-more owners place, owns) refl
 
 pub no-more-place : (owners : List ℕ) (place : ℕ) (places all : List ℕ)
-    → places ≡ owning owners place → is_in owners place ≡ false → all ≡ places
+    → places ≡ owning owners place → is_number_in owners place ≡ false → all ≡ places
     → all ≡ owning owners (place + 1)
 no-more-place owners place places all before owns e =
     rw (e, before, places-more owners place, owns) (sym (append-nil (owning owners place)))
@@ -81,7 +81,7 @@ once owner first (suc count) =
       | inr other ↦ rw other (once owner (first + 1) count)
     ]
 
-nothing-owns : (places : List ℕ) → length (filter (is_in []) places) ≡ 0
+nothing-owns : (places : List ℕ) → length (filter (is_number_in []) places) ≡ 0
 nothing-owns [] = refl
 nothing-owns (place ∷ places) = nothing-owns places
 
@@ -90,7 +90,7 @@ few-places [] children =
     let none = nothing-owns (range_with_len 0 children) in omega (arith, none)
 few-places (owner ∷ owners) children =
     let places = range_with_len 0 children in
-    let both = either (λ place. owner == place) (is_in owners) places in
+    let both = either (λ place. owner == place) (is_number_in owners) places in
     let here = once owner 0 children in
     let later = few-places owners children in
     omega (arith, both, here, later)
@@ -98,7 +98,7 @@ few-places (owner ∷ owners) children =
 -- as many owners as servers
 pub length-owners : (children : List (List ℕ)) (servers : ℕ) → length (owners_of children servers) ≡ servers
 length-owners children servers =
-    rw (length-map (range_with_len 0 servers) (owner_of children), length-range_with_len 0 servers) refl
+    rw (length-map (range_with_len 0 servers) (first_child_with children), length-range_with_len 0 servers) refl
 
 pub few-owned : (children : List (List ℕ)) (servers count most : ℕ) (owners places : List ℕ)
     → owners ≡ owners_of children servers → places ≡ owning owners count → servers ≤ most

@@ -10,7 +10,7 @@ use Rattle.std.proofs.lemmas.List.Folds.{position_or_len_push}
 use Rattle.std.proofs.lemmas.List.FromFn.{map-range_with_len_more}
 use Rattle.std.proofs.lemmas.List.Sums.{prefix_len-le-length}
 use Rattle.std.proofs.Math.Nat.{zero-lt-suc}
-use Rattle.tko_pools.specs.Groups.{is_in}
+use Rattle.tko_pools.specs.Groups.{is_number_in}
 use Rattle.tko_pools.specs.Numbering.{number_in, with_address}
 use Rattle.std.proofs.lemmas.Slice.Eq.{bytes_eq-Decides}
 use Rattle.serde_json.specs.Data.{Data}
@@ -120,19 +120,19 @@ every-number P (text ∷ texts) addresses before all =
 
 -- Each number of a child is in a child.
 
-pub all-in : (numbers : List ℕ) → All (λ number. is_in numbers number ≡ true) numbers
-all-in [] = All-nil (λ number. is_in [] number ≡ true)
+pub all-in : (numbers : List ℕ) → All (λ number. is_number_in numbers number ≡ true) numbers
+all-in [] = All-nil (λ number. is_number_in [] number ≡ true)
 all-in (first ∷ numbers) =
     All-cons
-    (λ number. is_in (first ∷ numbers) number ≡ true)
+    (λ number. is_number_in (first ∷ numbers) number ≡ true)
     first
     numbers
-    (or_left (first == first) (is_in numbers first) (eq-eqb first first refl))
-    (All-weaker (λ number. is_in numbers number ≡ true) (λ number. is_in (first ∷ numbers) number ≡ true) (λ number later. or_right (first == number) (is_in numbers number) later) numbers (all-in numbers))
+    (or_left (first == first) (is_number_in numbers first) (eq-eqb first first refl))
+    (All-weaker (λ number. is_number_in numbers number ≡ true) (λ number. is_number_in (first ∷ numbers) number ≡ true) (λ number later. or_right (first == number) (is_number_in numbers number) later) numbers (all-in numbers))
 
 -- whether a child holds a number
 abbrev pub is_held : List (List ℕ) → ℕ → Bool
-is_held children number = list_any (λ child. is_in child number) children
+is_held children number = list_any (λ child. is_number_in child number) children
 
 all-held : (children : List (List ℕ))
     → All (λ child. All (λ number. is_held children number ≡ true) child) children
@@ -144,8 +144,8 @@ all-held (child ∷ children) =
     (All Held)
     child
     children
-    (All-weaker (λ number. is_in child number ≡ true) Held (λ number here. or_left (is_in child number) (is_held children number) here) child (all-in child))
-    (All-weaker (All Later) (All Held) (λ other. All-weaker Later Held (λ number later. or_right (is_in child number) (is_held children number) later) other) children (all-held children))
+    (All-weaker (λ number. is_number_in child number ≡ true) Held (λ number here. or_left (is_number_in child number) (is_held children number) here) child (all-in child))
+    (All-weaker (All Later) (All Held) (λ other. All-weaker Later Held (λ number later. or_right (is_number_in child number) (is_held children number) later) other) children (all-held children))
 
 flat-all : {X A : Type 0} (P : A → Type 0) (f : X → List A) (xs : List X) → All (λ x. All P (f x)) xs
     → All P (flat_map f xs)

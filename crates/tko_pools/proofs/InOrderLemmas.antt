@@ -6,7 +6,7 @@ use Rattle.std.proofs.Math.Nat.{mod-one}
 use Rattle.std.proofs.lemmas.List.{length-map, length-replicate, map-append}
 use Rattle.std.proofs.lemmas.List.Elements.{All-nil, All-cons}
 use Rattle.std.proofs.lemmas.List.FromFn.{map-range_with_len_more}
-use Rattle.tko_pools.specs.Configs.{Configuration, IsSound, chosen_by, in_order, numbers_below, targets_of}
+use Rattle.tko_pools.specs.Configs.{Configuration, IsSoundConfig, chosen_by, in_order, numbers_below, targets_of}
 use Rattle.tko_pools.specs.Hash.{fnv1a_of}
 use Rattle.tko_pools.specs.Reasons.{max_servers}
 use Rattle.tko_pools.specs.Routes.{default_exptime}
@@ -70,7 +70,7 @@ one-group : (count : ℕ) → All (λ group. group < 1) (replicate count 0)
 one-group zero = All-nil (λ group. group < 1)
 one-group (suc count) = All-cons (λ group. group < 1) 0 (replicate count 0) (omega arith) (one-group count)
 
-in_order-sound : (addresses : List (List ℕ)) → length addresses ≤ max_servers → IsSound (in_order addresses)
+in_order-sound : (addresses : List (List ℕ)) → length addresses ≤ max_servers → IsSoundConfig (in_order addresses)
 in_order-sound addresses few = record {
   children = filled (numbers_below (length addresses));
   numbers = below 0 (length addresses) (length addresses) (omega arith);
@@ -85,7 +85,7 @@ in_order-sound addresses few = record {
 }
 
 pub made-sound : {X : Type 0} (text : X → List ℕ) (texts : List X) (config : Configuration)
-    → config ≡ in_order (map text texts) → length texts ≤ max_servers → IsSound config
+    → config ≡ in_order (map text texts) → length texts ≤ max_servers → IsSoundConfig config
 made-sound text texts config made few =
     let counted : length (map text texts) ≤ max_servers = rw (length-map texts text) few in
-    subst IsSound (sym made) (in_order-sound (map text texts) counted)
+    subst IsSoundConfig (sym made) (in_order-sound (map text texts) counted)

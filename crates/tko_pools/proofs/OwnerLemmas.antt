@@ -5,7 +5,7 @@ use Rattle.std.specs.List.{All, filter, list_any, position_or_len, range_with_le
 use Rattle.std.proofs.lemmas.Bool.{cases_Bool, cases_lt, eq-eqb, eqb-false, eqb-true, lt-ltb, or_left, or_right, or_parts}
 use Rattle.std.proofs.lemmas.List.Elements.{All-nil, All-cons, All-head, All-tail, All-map, All-weaker}
 use Rattle.std.proofs.Math.Nat.{zero-lt-suc}
-use Rattle.tko_pools.specs.Groups.{first_place, groups_of, is_in, owner_of, owners_of, owning}
+use Rattle.tko_pools.specs.Groups.{first_child_with, first_place, groups_of, is_number_in, owners_of, owning}
 use Rattle.tko_pools.proofs.HeldLemmas.{all-in, is_held}
 
 -- an item that passes has a place
@@ -61,14 +61,14 @@ pub groups-below : (children : List (List ℕ)) (servers : ℕ) (owners places :
     → All (λ group. group < length places) (groups_of owners places)
 groups-below children servers owners places owners_so places_so held =
     let Below : ℕ → Type 0 = λ owner. owner < length children in
-    let Owns : ℕ → Type 0 = λ owner. is_in owners owner ≡ true in
+    let Owns : ℕ → Type 0 = λ owner. is_number_in owners owner ≡ true in
     let Grouped : ℕ → Type 0 = λ owner. first_place (λ place. place == owner) places < length places in
     let numbers = range_with_len 0 servers in
     let below : All Below (owners_of children servers) =
-    All-map Below (owner_of children) numbers (All-weaker (λ server. is_held children server ≡ true) (λ server. owner_of children server < length children) (λ server. first-below (λ child. is_in child server) children) numbers held) in
+    All-map Below (first_child_with children) numbers (All-weaker (λ server. is_held children server ≡ true) (λ server. first_child_with children server < length children) (λ server. first-below (λ child. is_number_in child server) children) numbers held) in
     let grouped : (owner : ℕ) → Below owner → Owns owner → Grouped owner =
     λ owner within owns.
-    let among = among-owning (is_in owners) owner 0 (length children) owns (omega arith) (omega (arith, within)) in
+    let among = among-owning (is_number_in owners) owner 0 (length children) owns (omega arith) (omega (arith, within)) in
     let P : List ℕ → Type 0 = λ at. first_place (λ place. place == owner) at < length at in
     subst P (sym places_so) (first-below (λ place. place == owner) (owning owners (length children)) among) in
     All-map

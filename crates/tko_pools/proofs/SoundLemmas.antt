@@ -14,7 +14,7 @@ use Rattle.serde_json.specs.Data.{Data, null, boolean, number, string, array, ob
 use Rattle.serde_json.specs.Find.{get, get_member}
 use Rattle.tko_pools.specs.Json.{pool_list, pool_of, pools_of, servers_named, servers_of}
 use Rattle.tko_pools.specs.Reasons.{pool_reason, pools_reason, max_servers, unknown_child}
-use Rattle.tko_pools.specs.Configs.{AreGroups, IsSound, addresses_of, child_of, soft_limits_in}
+use Rattle.tko_pools.specs.Configs.{AreGroups, IsSoundConfig, addresses_of, child_of, soft_limits_in}
 use Rattle.tko_pools.specs.Groups.{first_place, groups_in, owners_of, owning}
 use Rattle.tko_pools.specs.SoftLimits.{limit_value, soft_limit_named}
 use Rattle.tko_pools.specs.Numbering.{number_in}
@@ -185,7 +185,7 @@ module _ (pools : Data) (names addresses children : List (List ℕ)) (groups : L
         small = rw parts.are_limits (limits-small pools names places);
       }
 
-  pub is-sound : IsSound (record {
+  pub is-sound : IsSoundConfig (record {
     addresses = addresses;
     children = children;
     failover_exptime = exptime;

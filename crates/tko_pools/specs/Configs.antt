@@ -100,7 +100,7 @@ abbrev pub IsNoRoot : List ℕ → Type 0
 IsNoRoot text = (root : Data) → IsRoot text root → ⊥
 
 -- a text is the JSON of an object with a reason against it, which this fault reports
-pub record IsRefused (text : List ℕ) (fault : ConfigFault) : Type 0 where
+pub record IsConfigRefused (text : List ℕ) (fault : ConfigFault) : Type 0 where
   pub root : Data
   pub is_root : IsRoot text root
   pub reports : Reports (reason_of root) fault
@@ -109,7 +109,7 @@ pub record IsRefused (text : List ℕ) (fault : ConfigFault) : Type 0 where
 abbrev pub Refuses : List ℕ → ConfigFault → Type 0
 Refuses text fault.Json = IsNoRoot text
 Refuses text fault.Memory = Unit {0}
-Refuses text other = IsRefused text other
+Refuses text other = IsConfigRefused text other
 
 -- there is a group and not more than 256, each server has one of them, and no pool's own soft limit
 -- is above 256
@@ -122,7 +122,7 @@ pub record AreGroups (config : Configuration) : Type 0 where
 
 -- each child has a server, each number is below the number of addresses, and the servers have
 -- groups
-pub record IsSound (config : Configuration) : Type 0 where
+pub record IsSoundConfig (config : Configuration) : Type 0 where
   pub children : All (λ child. 0 < length child) config.children
   pub numbers :
       All (λ child. All (λ number. number < length config.addresses) child) config.children

@@ -9,20 +9,20 @@ abbrev pub first_place : {T : Type 0} → (T → Bool) → List T → ℕ
 first_place test items = unwrap_or (position test items) (length items)
 
 -- whether this number is in a list
-abbrev pub is_in : List ℕ → ℕ → Bool
-is_in numbers number = list_any (λ other. other == number) numbers
+abbrev pub is_number_in : List ℕ → ℕ → Bool
+is_number_in numbers number = list_any (λ other. other == number) numbers
 
 -- the place of the first child that holds a server
-abbrev pub owner_of : List (List ℕ) → ℕ → ℕ
-owner_of children server = first_place (λ child. is_in child server) children
+abbrev pub first_child_with : List (List ℕ) → ℕ → ℕ
+first_child_with children server = first_place (λ child. is_number_in child server) children
 
 -- the owners of as many servers
 abbrev pub owners_of : List (List ℕ) → ℕ → List ℕ
-owners_of children servers = map (owner_of children) (range_with_len 0 servers)
+owners_of children servers = map (first_child_with children) (range_with_len 0 servers)
 
 -- the places of the children that own a server, in their order
 abbrev pub owning : List ℕ → ℕ → List ℕ
-owning owners children = filter (is_in owners) (range_with_len 0 children)
+owning owners children = filter (is_number_in owners) (range_with_len 0 children)
 
 -- the places of the children that own one of as many servers
 abbrev pub places_in : List (List ℕ) → ℕ → List ℕ

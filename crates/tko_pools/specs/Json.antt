@@ -6,13 +6,13 @@ use Rattle.serde_json.specs.Find.{get, as_array, as_object, as_str}
 use Rattle.tko_pools.specs.SoftLimits.{limit_value}
 
 -- the text of a value; anything else has the empty one
-abbrev pub text_of : Data → List ℕ
-text_of value = unwrap_or (as_str value) []
+abbrev pub text_of_value : Data → List ℕ
+text_of_value value = unwrap_or (as_str value) []
 
 -- the texts of a list's items
 abbrev pub texts_of : Items → List (List ℕ)
 texts_of no_items = []
-texts_of (item value items) = text_of value ∷ texts_of items
+texts_of (item value items) = text_of_value value ∷ texts_of items
 
 -- a pool: its name, the texts of its list of servers, none where it has no such list, and what it
 -- has as its soft limit

@@ -3,7 +3,7 @@ use Rattle.std.specs.Prelude.{ℕ, ◌-◌, ◌^◌, ◌==◌, nat_le, Bool, fal
 use Rattle.std.specs.Str.{bytes_eq}
 use Rattle.serde_json.specs.Data.{Data, null, boolean, number, string, array, object, Items}
 use Rattle.serde_json.specs.Find.{get, as_array, as_number, as_u64}
-use Rattle.tko_pools.specs.Json.{child_name, child_names, text_of, texts_of}
+use Rattle.tko_pools.specs.Json.{child_name, child_names, text_of_value, texts_of}
 
 -- the names of the pools that are tried, and the greatest expiry behind the first target
 pub record RouteRead : Type 0 where
@@ -21,7 +21,7 @@ abbrev pub route_over : List (List ℕ) → ℕ → RouteRead
 route_over children exptime = record { children = children; failover_exptime = exptime }
 
 abbrev pub names_failover : Data → Bool
-names_failover kind = bytes_eq (text_of kind) (codes "FailoverRoute")
+names_failover kind = bytes_eq (text_of_value kind) (codes "FailoverRoute")
 
 -- whether an object is a failover route
 abbrev pub is_failover : Data → Bool

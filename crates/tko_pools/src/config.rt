@@ -9,9 +9,9 @@ mod copying;
 mod in_order;
 
 use crate::flaws::{check_pools, unknown_child};
-use crate::groups::Grouping;
+use crate::groups::ServerGroups;
 use crate::json::{pools_in, servers_named};
-use crate::numbering::Addresses;
+use crate::numbering::NumberedAddresses;
 use crate::route::Route;
 use crate::{ConfigFault, fnv1a};
 use serde_json::Value;
@@ -26,7 +26,7 @@ const MAX_SERVERS: usize = 256;
 /// route, and the groups of the servers. In contracts it is a `Configuration`.
 #[derive(Drop)]
 pub struct Config {
-    addresses: Addresses,
+    addresses: NumberedAddresses,
     children: Vec<Vec<usize>>,
     failover_exptime: u32,
     /// Of each server: the number of its group.
@@ -37,7 +37,7 @@ pub struct Config {
 
 impl Model for Config {
     ghost use Rattle.std.specs.Prelude.{map};
-    ghost use Rattle.tko_pools.specs.Configs.{Configuration, IsSound};
+    ghost use Rattle.tko_pools.specs.Configs.{Configuration, IsSoundConfig};
 
     ghost Value = { Configuration };
 
@@ -49,7 +49,7 @@ impl Model for Config {
       soft_limits = c.soft_limits.items;
     } };
 
-    ghost invariant = { λ c. IsSound (record {
+    ghost invariant = { λ c. IsSoundConfig (record {
       addresses = c.addresses;
       children = map (λ child. child.items) c.children.items;
       failover_exptime = c.failover_exptime;
@@ -102,7 +102,7 @@ impl Config {
             return Err(ConfigFault::TooManyServers);
         }
         let children = children_of(alloc, &addresses, pools, names)?;
-        let grouping = Grouping::of(alloc, pools, names, &children, addresses.len())?;
+        let grouping = ServerGroups::of(alloc, pools, names, &children, addresses.len())?;
         Ok(Config {
             addresses,
             children,
@@ -217,11 +217,15 @@ fn root_of(alloc: Global, text: &[u8]) -> Result<Value, ConfigFault>
 }
 
 /// The addresses of these pools.
-fn addresses_of(alloc: Global, pools: &Value, names: &[&str]) -> Result<Addresses, AllocError>
+fn addresses_of(
+    alloc: Global,
+    pools: &Value,
+    names: &[&str],
+) -> Result<NumberedAddresses, AllocError>
     ensures { IfOk result (λ addresses. addresses
         ≡ addresses_of (view pools.now) (map (λ name. name.now) names.now)) }
 {
-    let mut addresses = Addresses::new(alloc);
+    let mut addresses = NumberedAddresses::new(alloc);
     for name in names {
         addresses.add_all(alloc, servers_named(pools, name))?;
     }
@@ -231,7 +235,7 @@ fn addresses_of(alloc: Global, pools: &Value, names: &[&str]) -> Result<Addresse
 /// The servers of each of these pools, by their numbers.
 fn children_of(
     alloc: Global,
-    addresses: &Addresses,
+    addresses: &NumberedAddresses,
     pools: &Value,
     names: &[&str],
 ) -> Result<Vec<Vec<usize>>, AllocError>

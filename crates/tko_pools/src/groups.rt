@@ -3,7 +3,7 @@ ghost use Rattle.std.specs.Prelude.{◌≡◌, ◌<◌, ◌≤◌, ◌==◌, [],
 ghost use Rattle.std.specs.List.{position};
 ghost use Rattle.serde_json.specs.View.{view};
 ghost use Rattle.tko_pools.specs.Configs.{soft_limits_at, soft_limits_in};
-ghost use Rattle.tko_pools.specs.Groups.{first_place, groups_in, groups_of, is_in, owner_of, owners_of, owning};
+ghost use Rattle.tko_pools.specs.Groups.{first_child_with, first_place, groups_in, groups_of, is_number_in, owners_of, owning};
 ghost use Rattle.tko_pools.specs.Reasons.{max_servers};
 
 use crate::soft_limits::soft_limit_named;
@@ -12,12 +12,12 @@ use std::alloc::{AllocError, Global};
 
 /// The groups of the servers of some children, and the soft limit of each group's pool.
 #[derive(Drop)]
-pub(crate) struct Grouping {
+pub(crate) struct ServerGroups {
     pub(crate) groups: Vec<u32>,
     pub(crate) soft_limits: Vec<Option<u32>>,
 }
 
-impl Grouping {
+impl ServerGroups {
     /// The grouping of as many servers of these children, which are the pools of these names.
     pub(crate) fn of(
         alloc: Global,
@@ -25,7 +25,7 @@ impl Grouping {
         names: &[&str],
         children: &[Vec<usize>],
         servers: usize,
-    ) -> Result<Grouping, AllocError>
+    ) -> Result<ServerGroups, AllocError>
         requires few { servers ≤ max_servers }
         ensures groups { IfOk result (λ grouping. grouping.groups.items
             ≡ groups_in (map (λ child. child.items) children.now) servers) }
@@ -35,7 +35,7 @@ impl Grouping {
     {
         let owners = owners_of(alloc, children, servers)?;
         let places = owning(alloc, &owners, children.len())?;
-        Ok(Grouping {
+        Ok(ServerGroups {
             groups: groups_of(alloc, &owners, &places)?,
             soft_limits: soft_limits_at(alloc, pools, names, &places)?,
         })
@@ -60,20 +60,20 @@ fn owners_of(
 
 /// The place of the first child that holds a server.
 fn owner_of(children: &[Vec<usize>], server: usize) -> usize
-    ensures { result ≡ owner_of (map (λ child. child.items) children.now) server }
+    ensures { result ≡ first_child_with (map (λ child. child.items) children.now) server }
 {
     holder_of(children, server).unwrap_or(children.len())
 }
 
 fn holder_of(children: &[Vec<usize>], server: usize) -> Option<usize>
-    ensures { result ≡ position (λ child. is_in child.items server) children.now }
+    ensures { result ≡ position (λ child. is_number_in child.items server) children.now }
 {
     children.iter().position(|child| is_in(child, server))
 }
 
 /// Whether a number is in a list.
 fn is_in(numbers: &[usize], number: usize) -> bool
-    ensures { result ≡ is_in numbers.now number }
+    ensures { result ≡ is_number_in numbers.now number }
 {
     numbers.iter().any(|other| *other == number)
 }

@@ -1,7 +1,7 @@
 //! What the JSON of a configuration says.
 ghost use Rattle.std.specs.Prelude.{◌≡◌, option_map};
 ghost use Rattle.serde_json.specs.View.{items_view, view};
-ghost use Rattle.tko_pools.specs.Json.{child_name, pools_in, servers_named, servers_of, text_of, texts_of};
+ghost use Rattle.tko_pools.specs.Json.{child_name, pools_in, servers_named, servers_of, text_of_value, texts_of};
 
 use serde_json::Value;
 
@@ -10,7 +10,7 @@ const CHILD_PREFIX: &str = "PoolRoute|";
 
 /// The text of a value, and the empty one of anything else.
 pub fn text_of(value: &Value) -> &str
-    ensures { result.now ≡ text_of (view value.now) }
+    ensures { result.now ≡ text_of_value (view value.now) }
 {
     value.as_str().unwrap_or("")
 }

@@ -13,11 +13,11 @@ use std::marker::Model;
 
 /// The different addresses, each at its number. Contracts see the list of their texts.
 #[derive(Drop)]
-pub(crate) struct Addresses {
+pub(crate) struct NumberedAddresses {
     texts: Vec<String>,
 }
 
-impl Model for Addresses {
+impl Model for NumberedAddresses {
     ghost use Rattle.std.specs.Prelude.{List, ℕ, map, string_bytes};
 
     ghost Value = { List (List ℕ) };
@@ -25,26 +25,26 @@ impl Model for Addresses {
     ghost view = { λ a. map string_bytes a.texts.items };
 }
 
-impl Addresses {
-    pub(crate) fn new(alloc: Global) -> Addresses
+impl NumberedAddresses {
+    pub(crate) fn new(alloc: Global) -> NumberedAddresses
         ensures { result ≡ [] }
     {
-        Addresses {
+        NumberedAddresses {
             texts: Vec::new(alloc),
         }
     }
 
     /// These addresses, each at its place.
-    pub(crate) fn of(texts: Vec<String>) -> Addresses
+    pub(crate) fn of(texts: Vec<String>) -> NumberedAddresses
         ensures { result ≡ map string_bytes texts.items }
     {
-        Addresses { texts }
+        NumberedAddresses { texts }
     }
 
-    pub(crate) fn copy(&self, alloc: Global) -> Result<Addresses, AllocError>
+    pub(crate) fn copy(&self, alloc: Global) -> Result<NumberedAddresses, AllocError>
         ensures { IfOk result (λ copy. copy ≡ self.now) }
     {
-        Ok(Addresses {
+        Ok(NumberedAddresses {
             texts: copy_texts(alloc, &self.texts)?,
         })
     }

@@ -2,16 +2,16 @@
 use Rattle.std.specs.Prelude.{◌≡◌, ◌≢◌, ℕ, List, [], Option, None, IsSome}
 use Rattle.tko_mux.specs.declared.asking.Given.{Given}
 use Rattle.tko_mux.specs.declared.asking.Given.TheVariants.{Input, Outcome}
-use Rattle.tko_port.specs.declared.guest.Event.{Event}
-use Rattle.tko_port.specs.declared.guest.Event.TheVariants.{Ended, Leave, Readable, Serve, Writable}
+use Rattle.tko_port.specs.declared.guest.ClientEvent.{ClientEvent}
+use Rattle.tko_port.specs.declared.guest.ClientEvent.TheVariants.{Ended, Leave, Readable, Serve, Writable}
 use Rattle.tko_port.specs.declared.guest.Guest.{Guest}
 use Rattle.tko_port.specs.declared.guest.Presence.{Presence}
 use Rattle.tko_port.specs.declared.guest.Presence.TheVariants.{Here, Leaving}
-use Rattle.tko_port.specs.declared.guest.Shared.{Shared}
+use Rattle.tko_port.specs.declared.guest.SharedParts.{SharedParts}
 use Rattle.tko_port.specs.declared.guest.Turned.{Turned}
 use Rattle.tko_port.specs.declared.guest.Turned.TheVariants.{Asks, AsksMore, Ends, Noted, Rests, Spent, Took}
 use Rattle.tko_port.specs.declared.settling.End.TheVariants.{Finished, LineTooLong, Memory, ReadFailed, WriteFailed}
-use Rattle.tko_port.specs.declared.talking.Stage.TheVariants.{Over, TooLong, Waits}
+use Rattle.tko_port.specs.declared.talking.SessionStage.TheVariants.{Over, TooLong, Waits}
 use Rattle.tko_port.specs.Ports.{PortState, now_readable, now_writable}
 use Rattle.tko_port.specs.Rests.{AtRest}
 use Rattle.tko_port.specs.Talks.{Talk}
@@ -47,8 +47,9 @@ pub record Seen : Type 0 where
   pub port : PortState
   pub presence : Presence
 
-abbrev pub seen : {L T : Type 0} → (T → List ℕ) → (T → Talk) → (L → PortState) → Guest L T → Seen
-seen awaited talk port guest = record {
+abbrev pub guest_seen : {L T : Type 0} → (T → List ℕ) → (T → Talk) → (L → PortState)
+    → Guest L T → Seen
+guest_seen awaited talk port guest = record {
   awaited = awaited guest.talk;
   talk = talk guest.talk;
   port = port guest.port;
@@ -56,7 +57,7 @@ seen awaited talk port guest = record {
 }
 
 -- this only says what came, and does not serve the client
-abbrev pub IsNotice : Event → Type 0
+abbrev pub IsNotice : ClientEvent → Type 0
 IsNotice Readable = Unit {0}
 IsNotice Writable = Unit {0}
 IsNotice Ended = Unit {0}
@@ -64,7 +65,7 @@ IsNotice (Leave why) = Unit {0}
 IsNotice Serve = ⊥
 
 -- what that does to the client's port
-abbrev pub noting : Event → PortState → PortState
+abbrev pub noting : ClientEvent → PortState → PortState
 noting Readable port = now_readable port
 noting Writable port = now_writable port
 noting Ended port = now_readable port
@@ -72,7 +73,7 @@ noting (Leave why) port = port
 noting Serve port = port
 
 -- whether the client is still served after it
-abbrev pub presence_after : Event → Presence → Presence
+abbrev pub presence_after : ClientEvent → Presence → Presence
 presence_after Readable presence = presence
 presence_after Writable presence = presence
 presence_after Ended presence = presence
@@ -98,7 +99,7 @@ ServesAs (Leaving why) asked did old new = (did ≡ Ends why) × (asked ≡ None
 
 -- what a call does to it: an event is noted at its port, and its session stays; or it is served; or
 -- its session takes what came, and its port stays
-abbrev pub GuestDoes : Given Event → Option ℕ → Turned → Seen → Seen → Type 0
+abbrev pub GuestDoes : Given ClientEvent → Option ℕ → Turned → Seen → Seen → Type 0
 GuestDoes (Input Readable) asked did old new =
     (did ≡ Noted) × (new ≡ record old { port = now_readable old.port })
 GuestDoes (Input Writable) asked did old new =
@@ -112,8 +113,8 @@ GuestDoes (Outcome server came) asked did old new =
     (did ≡ Took) × (new.port ≡ old.port) × (new.presence ≡ old.presence)
 
 -- an event leaves the session as it is, and what all clients share
-abbrev pub EventKeeps : {L T P : Type 0} → Given Event → Guest L T × Shared P → Guest L T × Shared P
-    → Type 0
+abbrev pub EventKeeps : {L T P : Type 0} → Given ClientEvent → Guest L T × SharedParts P
+    → Guest L T × SharedParts P → Type 0
 EventKeeps (Input Readable) old new = (new.0.talk ≡ old.0.talk) × (new.1 ≡ old.1)
 EventKeeps (Input Writable) old new = (new.0.talk ≡ old.0.talk) × (new.1 ≡ old.1)
 EventKeeps (Input Ended) old new = (new.0.talk ≡ old.0.talk) × (new.1 ≡ old.1)
@@ -122,10 +123,11 @@ EventKeeps (Input Serve) old new = Unit {0}
 EventKeeps (Outcome server came) old new = Unit {0}
 
 pub record IsGuestCall {L T P : Type 0} (awaited : T → List ℕ) (talk : T → Talk)
-    (port : L → PortState) (old : Guest L T × Shared P) (call : Given Event × (Option ℕ × Turned))
-    (new : Guest L T × Shared P) : Type 0 where
-  pub did : GuestDoes call.0 call.1.0 call.1.1 (seen awaited talk port old.0)
-      (seen awaited talk port new.0)
+    (port : L → PortState) (old : Guest L T × SharedParts P)
+    (call : Given ClientEvent × (Option ℕ × Turned)) (new : Guest L T × SharedParts P)
+    : Type 0 where
+  pub did : GuestDoes call.0 call.1.0 call.1.1 (guest_seen awaited talk port old.0)
+      (guest_seen awaited talk port new.0)
   pub kept : EventKeeps call.0 old new
 
 -- nothing can be done for a client before its next event; one that leaves rests only as long as a

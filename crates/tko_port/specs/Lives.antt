@@ -1,5 +1,5 @@
--- A session and its port: what was read is what the session was fed, and what was written is what it
--- sent.
+-- A session and its port: what was read is what the session was fed, and what was written is what
+-- it sent.
 use Rattle.std.specs.Prelude.{◌≡◌, ℕ, List, ◌++◌}
 use Rattle.tko_port.specs.declared.guest.Guest.{Guest}
 use Rattle.tko_port.specs.declared.guest.Presence.{Presence}

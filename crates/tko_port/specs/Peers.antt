@@ -16,6 +16,6 @@ abbrev pub probed_after : Delivery Turned → Option Came → Option Came
 probed_after (Reached number done) probed = probed
 probed_after (Probed it) probed = Some it
 
-abbrev pub probed_by : Option (Delivery Turned) → Option Came → Option Came
-probed_by None probed = probed
-probed_by (Some delivery) probed = probed_after delivery probed
+abbrev pub probed_after_delivery : Option (Delivery Turned) → Option Came → Option Came
+probed_after_delivery None probed = probed
+probed_after_delivery (Some delivery) probed = probed_after delivery probed

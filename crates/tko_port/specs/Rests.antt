@@ -4,8 +4,8 @@ use Rattle.tko_text.specs.declared.request.Request.{Request}
 use Rattle.tko_port.specs.declared.settling.End.TheVariants.{Finished, LineTooLong, Memory, ReadFailed, WriteFailed}
 use Rattle.tko_port.specs.declared.settling.Settled.{Settled}
 use Rattle.tko_port.specs.declared.settling.Settled.TheVariants.{Asks, AsksMore, Ends, Rests, Spent}
-use Rattle.tko_port.specs.declared.talking.Stage.{Stage}
-use Rattle.tko_port.specs.declared.talking.Stage.TheVariants.{Full, Going, NeedsInput, Over, TooLong, Waits}
+use Rattle.tko_port.specs.declared.talking.SessionStage.{SessionStage}
+use Rattle.tko_port.specs.declared.talking.SessionStage.TheVariants.{Full, Going, NeedsInput, Over, TooLong, Waits}
 use Rattle.tko_port.specs.Ports.{PortState}
 use Rattle.tko_port.specs.Talks.{Talk}
 
@@ -17,7 +17,7 @@ CannotWrite output port = output ≢ [] → port.writable ≡ false
 -- and it waits for what comes of that; its replies must be written first, and cannot be; more is
 -- needed and nothing can be read, and no reply can be written; or it is over but for replies that
 -- cannot be written
-abbrev pub RestsAt : Stage → List ℕ → List ℕ → PortState → Type 0
+abbrev pub RestsAt : SessionStage → List ℕ → List ℕ → PortState → Type 0
 RestsAt Going awaited output port = ⊥
 RestsAt Waits awaited output port = awaited ≢ []
 RestsAt Full awaited output port = port.writable ≡ false
@@ -46,8 +46,8 @@ HasAsked Spent request = Unit {0}
 HasAsked (Ends why) request = Unit {0}
 
 -- what serving a client came to: it asks a server, and waits for that or for another; it asks one,
--- and more can be done; nothing can be done; more can be done, and is left for the next turn; or its
--- session ended, with all its replies written unless the connection failed or memory ran out
+-- and more can be done; nothing can be done; more can be done, and is left for the next turn; or
+-- its session ended, with all its replies written unless the connection failed or memory ran out
 abbrev pub SettledAs : Settled → List ℕ → Talk → PortState → Type 0
 SettledAs (Asks server) awaited talk port = (talk.stage ≡ Waits) × (awaited ≢ [])
 SettledAs (AsksMore server) awaited talk port = Unit {0}

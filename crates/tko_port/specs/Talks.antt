@@ -1,15 +1,15 @@
 -- A client's session as its port sees it.
 use Rattle.std.specs.Prelude.{◌≡◌, ◌≢◌, ℕ, ◌+◌, ◌-◌, ◌^◌, List, [], ◌++◌, Option, length, min}
 use Rattle.tko_mux.specs.declared.asking.Came.{Came}
-use Rattle.tko_port.specs.declared.talking.Stage.{Stage}
-use Rattle.tko_port.specs.declared.talking.Stage.TheVariants.{Full, Going, NeedsInput, Over, TooLong, Waits}
+use Rattle.tko_port.specs.declared.talking.SessionStage.{SessionStage}
+use Rattle.tko_port.specs.declared.talking.SessionStage.TheVariants.{Full, Going, NeedsInput, Over, TooLong, Waits}
 use Rattle.tko_port.specs.declared.talking.Tally.{Tally}
 
 -- how far it is; the replies that wait to be written; how many
 -- of its requests were answered, and how many bytes of its replies were written; and how many are
 -- held, of those that wait and of the one under way
 pub record Talk : Type 0 where
-  pub stage : Stage
+  pub stage : SessionStage
   pub output : List ℕ
   pub answered : ℕ
   pub taken : ℕ
@@ -39,7 +39,7 @@ pub data TalkItem : Type 0 where
   Took : (server : ℕ) (came : Came) (asked : Option ℕ) → TalkItem
 
 -- where its replies are to be written before it goes on, there are some
-abbrev pub HasReplies : Stage → List ℕ → Type 0
+abbrev pub HasReplies : SessionStage → List ℕ → Type 0
 HasReplies Full output = output ≢ []
 HasReplies Going output = Unit {0}
 HasReplies Waits output = Unit {0}
@@ -47,9 +47,9 @@ HasReplies NeedsInput output = Unit {0}
 HasReplies Over output = Unit {0}
 HasReplies TooLong output = Unit {0}
 
--- whom a session awaits at a stage: some server where nothing can be done before something comes for
--- one of its requests; any where it can go on; else none
-abbrev pub AwaitsAt : Stage → List ℕ → Type 0
+-- whom a session awaits at a stage: some server where nothing can be done before something comes
+-- for one of its requests; any where it can go on; else none
+abbrev pub AwaitsAt : SessionStage → List ℕ → Type 0
 AwaitsAt Going awaited = Unit {0}
 AwaitsAt Waits awaited = awaited ≢ []
 AwaitsAt Full awaited = awaited ≡ []

@@ -69,13 +69,13 @@ CannotWriteTo line port =
 
 -- what a look at a port gave: without a port, that the connection failed; nothing, if the port is
 -- not readable; or what a read gave
-pub data ReadsPiece (old : Option PortState) (buffer : List ℕ) (read : Read)
+pub data ReadsFromPort (old : Option PortState) (buffer : List ℕ) (read : Read)
     (new : Option PortState) : Type 0 where
-  without : old ≡ None → read ≡ Fault → new ≡ None → ReadsPiece old buffer read new
+  without : old ≡ None → read ≡ Fault → new ≡ None → ReadsFromPort old buffer read new
   unready : (port : PortState) → old ≡ Some port → port.readable ≡ false → read ≡ Nothing
-      → new ≡ old → ReadsPiece old buffer read new
+      → new ≡ old → ReadsFromPort old buffer read new
   gave : (was now : PortState) → old ≡ Some was → ReadGives was buffer read now → new ≡ Some now
-      → ReadsPiece old buffer read new
+      → ReadsFromPort old buffer read new
 
 -- what that leaves: some bytes at the front of the buffer, or a port that is not readable
 abbrev pub LeavesPort : Read → List ℕ → Option PortState → Type 0
@@ -122,11 +122,11 @@ pub record HasCome (server now : ℕ) (bytes : List ℕ) (old : List LineState)
 pub data HasRead (server now : ℕ) (old : List LineState) (port : Option PortState)
     (new : List LineState) (after : Option PortState) : Type 0 where
   got : (buffer : List ℕ) (count : ℕ) (mid : Option PortState)
-      → ReadsPiece port buffer (Bytes count) mid
+      → ReadsFromPort port buffer (Bytes count) mid
       → HasCome server now (take count buffer) old mid new after
       → HasRead server now old port new after
   over : (buffer : List ℕ) (read : Read) (mid : Option PortState) (why : ShutCause)
-      → ReadsPiece port buffer read mid → IsEndBy read why → IsGivenUp old server why new
+      → ReadsFromPort port buffer read mid → IsEndBy read why → IsGivenUp old server why new
       → after ≡ None → HasRead server now old port new after
 
 -- the same, whatever it leaves of the port

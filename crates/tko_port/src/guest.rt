@@ -12,7 +12,7 @@ use tko_text::Request;
 /// What all clients of a worker share: the parts of their sessions, and the buffer for what is
 /// read.
 #[derive(Drop)]
-pub struct Shared<P> {
+pub struct SharedParts<P> {
     pub parts: P,
     /// It is not empty.
     pub buffer: Vec<u8>,
@@ -20,7 +20,7 @@ pub struct Shared<P> {
 
 /// What a client is given.
 #[derive(Clone, Copy, Debug, PartialEq, Eq)]
-pub enum Event {
+pub enum ClientEvent {
     /// An event said that its port is readable.
     Readable,
     /// An event said that its port is writable.
@@ -69,12 +69,12 @@ pub struct Guest<L, T> {
     pub presence: Presence,
 }
 
-impl<P, L: Port, T: Talking<P>> Asking<Shared<P>> for Guest<L, T> {
+impl<P, L: Port, T: Talking<P>> Asking<SharedParts<P>> for Guest<L, T> {
     ghost use Rattle.tko_port.specs.Guests.{IsGuestCall};
     ghost use Rattle.tko_port.specs.Lives.{IsGuestReady};
     ghost use Rattle.tko_port.specs.Staying.{guest_stays};
 
-    type Input = Event;
+    type Input = ClientEvent;
 
     type Output = Turned;
 
@@ -96,25 +96,25 @@ impl<P, L: Port, T: Talking<P>> Asking<Shared<P>> for Guest<L, T> {
         (L.port guest.port) guest.talk old.parts new.parts
         (λ came went. T.stay_ready guest.talk came went old.parts new.parts stays) };
 
-    fn act(&mut self, shared: &mut Shared<P>, event: Event) -> (Option<Clear>, Turned) {
+    fn act(&mut self, shared: &mut SharedParts<P>, event: ClientEvent) -> (Option<Clear>, Turned) {
         match event {
-            Event::Readable => {
+            ClientEvent::Readable => {
                 self.port.set_readable();
                 (None, Turned::Noted)
             }
-            Event::Writable => {
+            ClientEvent::Writable => {
                 self.port.set_writable();
                 (None, Turned::Noted)
             }
-            Event::Ended => {
+            ClientEvent::Ended => {
                 self.port.set_ended();
                 (None, Turned::Noted)
             }
-            Event::Leave(why) => {
+            ClientEvent::Leave(why) => {
                 self.presence = Presence::Leaving(why);
                 (None, Turned::Noted)
             }
-            Event::Serve => match self.presence {
+            ClientEvent::Serve => match self.presence {
                 Presence::Here => {
                     let (asked, did) = serve(&mut self.port, &mut self.talk, shared);
                     self.presence = presence_of(did);
@@ -127,7 +127,7 @@ impl<P, L: Port, T: Talking<P>> Asking<Shared<P>> for Guest<L, T> {
 
     fn take(
         &mut self,
-        shared: &mut Shared<P>,
+        shared: &mut SharedParts<P>,
         server: usize,
         came: Came,
     ) -> (Option<Clear>, Turned) {
@@ -154,7 +154,7 @@ impl<P, L: Port, T: Talking<P>> Asking<Shared<P>> for Guest<L, T> {
 fn serve<P, L: Port, T: Talking<P>>(
     port: &mut L,
     talk: &mut T,
-    shared: &mut Shared<P>,
+    shared: &mut SharedParts<P>,
 ) -> (Option<Clear>, Turned)
     requires ready { ReadyAt T.ready shared.old.parts (L.port port.old) talk.old }
     ensures ends { ServedAs result.1 (T.awaited talk.new) (T.talk talk.new) (L.port port.new) }

@@ -3,12 +3,12 @@
 //!
 //! - `Port`: a socket that does not wait, with what may be done on it; `Read`: what a read gave;
 //!   `MemoryPort`: one in memory.
-//! - `Talking`: a client's session as its port sees it; `Stage`: how far it is; `Tally`: what was
-//!   done with it.
+//! - `Talking`: a client's session as its port sees it; `SessionStage`: how far it is; `Tally`:
+//!   what was done with it.
 //! - `settle`: serves a client until nothing can be done for it before its next event; `Settled`:
 //!   what that came to; `End`: why a client's session ended.
-//! - `Guest`: a client with its port, its session and its `Presence`; `Event`: what it is given;
-//!   `Shared`: what all clients share; `Turned`: what a call of a client came to.
+//! - `Guest`: a client with its port, its session and its `Presence`; `ClientEvent`: what it is
+//!   given; `SharedParts`: what all clients share; `Turned`: what a call of a client came to.
 //! - `Peer`: a server's socket, and what came for a probe of the server.
 //! - `read_wire`, `write_wire`: what is read and written of the connection to a server, on its
 //!   port; beside them what is asked of that connection.
@@ -22,12 +22,12 @@ mod settling;
 mod talking;
 mod wire;
 
-pub use guest::{Event, Guest, Presence, Shared, Turned};
+pub use guest::{ClientEvent, Guest, Presence, SharedParts, Turned};
 pub use memory::MemoryPort;
 pub use peer::Peer;
 pub use port::{Port, Read};
 pub use settling::{End, Settled, settle};
-pub use talking::{Stage, Talking, Tally};
+pub use talking::{SessionStage, Talking, Tally};
 pub use wire::{
     first_due, has_unwritten, is_connected, is_connecting, is_late, is_open, read_wire, write_wire,
 };

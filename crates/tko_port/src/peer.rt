@@ -2,9 +2,9 @@
 ghost use Rattle.std.specs.Prelude.{◌≡◌, ◌≢◌, None, Some, Ok, option_copied, option_map};
 ghost use Rattle.std.specs.Bool.{OnFalse, OnTrue};
 ghost use Rattle.tko_port.specs.Guests.{noting};
-ghost use Rattle.tko_port.specs.Peers.{delivery_in, probed_after, probed_by};
+ghost use Rattle.tko_port.specs.Peers.{delivery_in, probed_after, probed_after_delivery};
 
-use crate::{Event, Port, Turned};
+use crate::{ClientEvent, Port, Turned};
 use tko_mux::{Came, Delivery};
 use tko_pipe::ShutCause;
 
@@ -42,7 +42,8 @@ impl<L: Drop> Peer<L> {
     /// shut.
     pub fn keep_taken(&mut self, taken: Result<Option<Delivery<Turned>>, ShutCause>) -> bool
         ensures none { OnFalse result (taken ≡ Ok None) }
-        ensures probed { self.new.probed ≡ probed_by (delivery_in taken) self.old.probed }
+        ensures probed { self.new.probed
+            ≡ probed_after_delivery (delivery_in taken) self.old.probed }
         ensures socket { self.new.socket ≡ self.old.socket }
     {
         match taken {
@@ -93,7 +94,7 @@ impl<L: Port + Drop> Peer<L> {
     }
 
     /// An event came for the socket.
-    pub fn note(&mut self, event: Event)
+    pub fn note(&mut self, event: ClientEvent)
         ensures { option_map L.port self.new.socket
             ≡ option_map (noting event) (option_map L.port self.old.socket) }
     {
@@ -113,14 +114,14 @@ impl<L: Port + Drop> Peer<L> {
 }
 
 /// Notes an event at a port.
-fn note_at<L: Port>(port: &mut L, event: Event)
+fn note_at<L: Port>(port: &mut L, event: ClientEvent)
     ensures { L.port port.new ≡ noting event (L.port port.old) }
 {
     match event {
-        Event::Readable => port.set_readable(),
-        Event::Writable => port.set_writable(),
-        Event::Ended => port.set_ended(),
-        Event::Leave(_) => {}
-        Event::Serve => {}
+        ClientEvent::Readable => port.set_readable(),
+        ClientEvent::Writable => port.set_writable(),
+        ClientEvent::Ended => port.set_ended(),
+        ClientEvent::Leave(_) => {}
+        ClientEvent::Serve => {}
     }
 }

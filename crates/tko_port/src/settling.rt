@@ -6,7 +6,7 @@ ghost use Rattle.tko_port.specs.Lives.{ReadyAs, ReadyAt};
 ghost use Rattle.tko_port.specs.Rests.{CannotWrite, HasAsked, SettledAs, asked_as};
 ghost use Rattle.tko_port.specs.Talks.{AwaitsAt, HasReplies};
 
-use crate::{Port, Read, Stage, Talking};
+use crate::{Port, Read, SessionStage, Talking};
 use tko_model::Clear;
 
 /// How often a client is read from or written to in one turn. What is left then is done in the next
@@ -87,7 +87,7 @@ fn serve<P, L: Port, T: Talking<P>>(
 {
     match talk.go_on(parts) {
         Ok(Some(clear)) => match talk.stage() {
-            Stage::Waits => Some(Settled::Asks(clear)),
+            SessionStage::Waits => Some(Settled::Asks(clear)),
             _ => Some(Settled::AsksMore(clear)),
         },
         Ok(None) => serve_here(port, talk, parts, buffer),
@@ -120,7 +120,7 @@ fn serve_here<P, L: Port, T: Talking<P>>(
         return serve_idle(port, talk, parts, buffer);
     }
     match talk.stage() {
-        Stage::Waits => Some(Settled::Rests),
+        SessionStage::Waits => Some(Settled::Rests),
         _ => Some(Settled::Spent),
     }
 }
@@ -151,12 +151,12 @@ fn serve_idle<P, L: Port, T: Talking<P>>(
         return write_out(port, talk, parts);
     }
     match talk.stage() {
-        Stage::Going => Some(Settled::Spent),
-        Stage::Waits => unreachable!(),
-        Stage::Full => Some(Settled::Rests),
-        Stage::NeedsInput => read_in(port, talk, parts, buffer),
-        Stage::Over => over::<P, _>(talk, End::Finished),
-        Stage::TooLong => over::<P, _>(talk, End::LineTooLong),
+        SessionStage::Going => Some(Settled::Spent),
+        SessionStage::Waits => unreachable!(),
+        SessionStage::Full => Some(Settled::Rests),
+        SessionStage::NeedsInput => read_in(port, talk, parts, buffer),
+        SessionStage::Over => over::<P, _>(talk, End::Finished),
+        SessionStage::TooLong => over::<P, _>(talk, End::LineTooLong),
     }
 }
 

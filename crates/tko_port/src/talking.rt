@@ -7,7 +7,7 @@ use tko_text::Request;
 
 /// How far a session is.
 #[derive(Clone, Copy, Debug, PartialEq, Eq)]
-pub enum Stage {
+pub enum SessionStage {
     /// It can go on, also while requests of it are under way.
     Going,
     /// Requests of it are under way, and it can do nothing before something comes for one of them.
@@ -41,7 +41,7 @@ pub struct Tally {
 pub trait Talking<P> {
     ghost use Rattle.std.specs.Prelude.{◌≡◌, ◌≢◌, ◌<◌, ◌≤◌, ◌++◌, ℕ, List, [], None, Option, Some, IfOk, IfSome, IsSome, OnErr, OnOk, drop, length, take};
     ghost use Rattle.std.specs.Bool.{OnFalse, OnTrue};
-    ghost use Rattle.tko_port.specs.declared.talking.Stage.TheVariants.{NeedsInput};
+    ghost use Rattle.tko_port.specs.declared.talking.SessionStage.TheVariants.{NeedsInput};
     ghost use Rattle.tko_port.specs.Talks.{AwaitsAt, Dropped, Ended, Fed, GainsBytes, HasReplies, IsCallable, NotFed, SendsBytes, Sent, StaysReady, Talk, TalkItem, Took, Went, tally_of, taken_more};
     ghost use Rattle.tko_text.specs.declared.request.Request.{Request};
     ghost use Rattle.tko_mux.specs.Awaits.{IsAsking, IsTaking, times_due};
@@ -67,7 +67,8 @@ pub trait Talking<P> {
     ghost stays: { P → P → Type 0 };
 
     /// Goes on, for a bounded number of items, also while requests of it are under way. Returns the
-    /// permission to send one more, if it asks a server. An `Err` says that its request was dropped.
+    /// permission to send one more, if it asks a server. An `Err` says that its request was
+    /// dropped.
     fn go_on(&mut self, parts: &mut P) -> Result<Option<Clear>, NoMemory>
         requires ready { IsCallable ready (self.old, parts.old) }
         ensures ok { IfOk result (λ asked. does (self.old, parts.old) (Went asked)
@@ -85,7 +86,7 @@ pub trait Talking<P> {
         ensures ready { StaysReady ready (self.old, parts.old) (self.new, parts.new) }
         ensures stays { stays parts.old parts.new };
 
-    fn stage(&self) -> Stage
+    fn stage(&self) -> SessionStage
         ensures { result ≡ (talk self.now).stage };
 
     /// The first of the replies that wait to be written, in one piece; it is empty only if none

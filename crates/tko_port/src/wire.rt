@@ -4,7 +4,7 @@ ghost use Rattle.std.specs.Bool.{OnFalse, OnTrue};
 ghost use Rattle.tko_pipe.specs.Pipes.{IsCause, PipeState};
 ghost use Rattle.tko_mux.specs.Linking.{AreLinked};
 ghost use Rattle.tko_mux.specs.Muxes.{HasNoneLeaving, line_at};
-ghost use Rattle.tko_port.specs.Wires.{CannotRead, CannotWriteTo, HasCome, HasRead, HasWritten, IsGivenUp, IsNotWritable, IsOpen, LeavesPort, OtherLines, ReadsPiece, WritesPiece, due_at, first_at, is_first_late, link_at, unwritten_at};
+ghost use Rattle.tko_port.specs.Wires.{CannotRead, CannotWriteTo, HasCome, HasRead, HasWritten, IsGivenUp, IsNotWritable, IsOpen, LeavesPort, OtherLines, ReadsFromPort, WritesPiece, due_at, first_at, is_first_late, link_at, unwritten_at};
 
 use crate::{Port, Read};
 use tko_mux::{Asking, Mux};
@@ -167,7 +167,7 @@ fn receive<P, S: Asking<P> + Drop, L: Port + Drop>(
 /// Reads from a port, if it is readable. A connection that has none failed.
 fn read_piece<L: Port>(socket: &mut Option<L>, buffer: &mut [u8]) -> Read
     requires { 0 < length buffer.old }
-    ensures reads { ReadsPiece (option_map L.port socket.old) buffer.new result
+    ensures reads { ReadsFromPort (option_map L.port socket.old) buffer.new result
         (option_map L.port socket.new) }
     ensures leaves { LeavesPort result buffer.new (option_map L.port socket.new) }
 {

@@ -15,7 +15,7 @@ use Rattle.tko_prober.specs.declared.backend.Backend.{Backend}
 use Rattle.tko_prober.specs.declared.probers.ProbeSlot.{ProbeSlot}
 use Rattle.tko_prober.specs.declared.probers.ProbeSlot.TheVariants.{Probing}
 use Rattle.tko_prober.specs.Ghosts.{BackendGhosts}
-use Rattle.tko_prober.specs.Halves.{IsOut, IsPassed, IsResult, IsSent}
+use Rattle.tko_prober.specs.Halves.{IsOut, IsPassed, IsProbeSent, IsResult}
 use Rattle.tko_prober.specs.Probers.{AreQuiet, ProbersState, begun_at, begun_slot, probed_of, prober_of, slot_after, with_slot}
 use Rattle.tko_prober.specs.Round.{Absent, AreVisited, IsBegun, IsRound, IsVisit, IsVisited, IsVisitedBy, Probed, Rested, Stopped, Visit, is_probe, is_short, probes_in, ran_out, visited}
 use Rattle.tko_prober.specs.declared.rounds.ProbeEnd.{ProbeEnd}
@@ -46,7 +46,7 @@ module _ {H L C : Type 0} {ghosts : BackendGhosts H L C} where
   -- a probe was sent, and its result was taken once the links had it
   pub visited_sent : (moment : ℕ) (old mid : Backend H L C) (server : ℕ) (probe : ProbeEnd) (later : ℕ)
       (links : L) (clock : C) (new : Backend H L C)
-      → IsSent ghosts.grants moment old server mid
+      → IsProbeSent ghosts.grants moment old server mid
       → WasProbed ghosts.exchanges mid.links server probe.came links
       → ((probe.came ≡ Ok outcome.Spent) ↔ (ghosts.probed mid.links server ≡ most_sends))
       → ((at : ℕ) → ghosts.probed links at ≡ ghosts.probed mid.links at + part_of (is_counted probe.came) server at)

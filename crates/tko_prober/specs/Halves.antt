@@ -5,7 +5,7 @@ use Rattle.tko_model.specs.declared.mark.Reply.{Reply}
 use Rattle.tko_model.specs.Records.{HealthItem, NoDuty}
 use Rattle.tko_prober.specs.declared.prober.Probed.{Probed}
 use Rattle.tko_prober.specs.declared.prober.Prober.{Prober}
-use Rattle.tko_prober.specs.declared.prober.Stage.TheVariants.{Out}
+use Rattle.tko_prober.specs.declared.prober.ProberStage.TheVariants.{Out}
 use Rattle.tko_prober.specs.Probes.{IsDue, asked_after, sent}
 use Rattle.tko_route.specs.Trail.{IsRecorded}
 use Rattle.tko_prober.specs.declared.backend.Backend.{Backend}
@@ -51,7 +51,7 @@ module _ {H L C : Type 0} (grants : H → ℕ → Type 0) where
 
   -- the prober is due at the moment of the round, the health granted the right to probe its server,
   -- and the probe is out from now on
-  pub record IsSent (moment : ℕ) (old : Backend H L C) (server : ℕ) (new : Backend H L C)
+  pub record IsProbeSent (moment : ℕ) (old : Backend H L C) (server : ℕ) (new : Backend H L C)
       : Type 0 where
     pub prober : Prober
     pub has : prober_of old.probers server ≡ Some prober

@@ -4,7 +4,7 @@ use Rattle.tko_model.specs.declared.mark.Op.{Op}
 use Rattle.tko_model.specs.declared.mark.Op.TheVariants.{HardFailure, Success}
 use Rattle.tko_model.specs.declared.mark.Reply.{Reply}
 use Rattle.tko_model.specs.declared.mark.Reply.TheVariants as reply
-use Rattle.tko_links.specs.declared.links.NoMemory.{NoMemory}
+use Rattle.tko_links.specs.declared.links.ExchangeNoMemory.{ExchangeNoMemory}
 use Rattle.tko_links.specs.declared.links.Outcome.{Outcome}
 use Rattle.tko_links.specs.declared.links.Outcome.TheVariants as outcome
 use Rattle.tko_prober.specs.declared.delays.Delays.{Delays}
@@ -13,7 +13,7 @@ use Rattle.tko_prober.specs.declared.prober.AfterProbe.TheVariants as after
 use Rattle.tko_prober.specs.declared.prober.Probed.{Probed}
 use Rattle.tko_prober.specs.declared.prober.Probed.TheVariants as probe
 use Rattle.tko_prober.specs.declared.prober.Prober.{Prober}
-use Rattle.tko_prober.specs.Probes.{begun, with_result}
+use Rattle.tko_prober.specs.Probes.{begun_prober, with_result}
 use Rattle.tko_route.specs.declared.attempt.Attempt.{Attempt}
 use Rattle.tko_route.specs.declared.attempt.Attempt.TheVariants as attempt
 use Rattle.tko_prober.specs.declared.probers.ProbeSlot.{ProbeSlot}
@@ -73,7 +73,7 @@ noted (it ∷ trail) probers = noted trail (noted_one it probers)
 -- a server that was marked gets a prober that begins at this moment
 abbrev pub begun_slot : Delays → ℕ → ProbeSlot → ProbeSlot
 begun_slot delays moment Quiet = Quiet
-begun_slot delays moment Marked = Probing (begun delays moment)
+begun_slot delays moment Marked = Probing (begun_prober delays moment)
 begun_slot delays moment (Probing prober) = Probing prober
 
 -- each server that was marked since the last round
@@ -91,7 +91,7 @@ probed_by outcome.Aborted = probe.Failed
 probed_by outcome.Spent = probe.Failed
 
 -- what came of a probe; one for which memory ran out has failed
-abbrev pub probed_of : Result Outcome NoMemory → Probed
+abbrev pub probed_of : Result Outcome ExchangeNoMemory → Probed
 probed_of (Ok came) = probed_by came
 probed_of (Err fault) = probe.Failed
 

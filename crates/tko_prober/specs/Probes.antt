@@ -6,18 +6,18 @@ use Rattle.tko_prober.specs.declared.prober.AfterProbe.TheVariants.{Recover, Har
 use Rattle.tko_prober.specs.declared.prober.Probed.{Probed}
 use Rattle.tko_prober.specs.declared.prober.Probed.TheVariants.{Answered, Refused, Failed}
 use Rattle.tko_prober.specs.declared.prober.Prober.{Prober}
-use Rattle.tko_prober.specs.declared.prober.Stage.{Stage}
-use Rattle.tko_prober.specs.declared.prober.Stage.TheVariants.{Waiting, Out, Ended}
+use Rattle.tko_prober.specs.declared.prober.ProberStage.{ProberStage}
+use Rattle.tko_prober.specs.declared.prober.ProberStage.TheVariants.{Waiting, Out, Ended}
 use Rattle.tko_io.specs.Io.{capped}
 use Rattle.tko_prober.specs.Delay.{due_after}
 
 -- a prober that began at this moment: its first probe is due after the first delay
-abbrev pub begun : Delays → ℕ → Prober
-begun delays now =
+abbrev pub begun_prober : Delays → ℕ → Prober
+begun_prober delays now =
     record { delays = delays; results = 0; stage = Waiting (capped (now + delays.first)) }
 
 -- a probe is to be sent at this moment
-abbrev pub IsDue : Stage → ℕ → Type 0
+abbrev pub IsDue : ProberStage → ℕ → Type 0
 IsDue (Waiting due) now = due ≤ now
 IsDue Out now = ⊥
 IsDue Ended now = ⊥

@@ -4,7 +4,7 @@ use Rattle.std.specs.Prelude.{◌≡◌, ◌↔◌, ℕ, ◌+◌, Bool, false, �
 use Rattle.std.specs.List.{list_any}
 use Rattle.tko_model.specs.declared.mark.Reply.{Reply}
 use Rattle.tko_model.specs.Records.{Gains}
-use Rattle.tko_links.specs.declared.links.NoMemory.{NoMemory}
+use Rattle.tko_links.specs.declared.links.ExchangeNoMemory.{ExchangeNoMemory}
 use Rattle.tko_links.specs.declared.links.Outcome.{Outcome}
 use Rattle.tko_links.specs.declared.links.Outcome.TheVariants as outcome
 use Rattle.tko_links.specs.Links.{WasProbed, is_counted, most_sends, part_of}
@@ -25,7 +25,7 @@ pub data Visit : Type 0 where
   Absent : (server : ℕ) → Visit
   Stopped : (server : ℕ) → Visit
   Rested : (server : ℕ) → Visit
-  Probed : (server : ℕ) (came : Result Outcome NoMemory) (moment : ℕ) (reply : Option Reply)
+  Probed : (server : ℕ) (came : Result Outcome ExchangeNoMemory) (moment : ℕ) (reply : Option Reply)
       → Visit
 
 abbrev pub visited : Visit → ℕ
@@ -62,8 +62,8 @@ module _ {H L C : Type 0} (ghosts : BackendGhosts H L C) where
   -- and it was probed once: the links have the probe, one more moment was read, and what the prober
   -- asks for was recorded
   pub record IsProbed (moment : ℕ) (old : Backend H L C) (server : ℕ)
-      (came : Result Outcome NoMemory) (later : ℕ) (reply : Option Reply) (new : Backend H L C)
-      : Type 0 where
+      (came : Result Outcome ExchangeNoMemory) (later : ℕ) (reply : Option Reply)
+      (new : Backend H L C) : Type 0 where
     pub prober : Prober
     pub has : prober_of old.probers server ≡ Some prober
     pub due : IsDue prober.stage moment

@@ -4,11 +4,11 @@ ghost use Rattle.std.specs.Prelude.{◌≡◌, ◌<◌, IfNone, IfSome, None, le
 ghost use Rattle.tko_prober.specs.declared.prober.Prober.{Prober};
 ghost use Rattle.tko_prober.specs.Probes.{asked_after};
 ghost use Rattle.tko_route.specs.Trail.{IsRecorded};
-ghost use Rattle.tko_prober.specs.Halves.{IsOut, IsPassed, IsResult, IsSent};
+ghost use Rattle.tko_prober.specs.Halves.{IsOut, IsPassed, IsProbeSent, IsResult};
 ghost use Rattle.tko_prober.specs.Probers.{op_asked, slot_after};
 
 use crate::probers::ProbeSlot;
-use crate::{AfterProbe, Backend, ProbeTurn, Probed, Prober, Stage};
+use crate::{AfterProbe, Backend, ProbeTurn, Probed, Prober, ProberStage};
 use std::sync::Wait;
 use tko_model::{Duty, Reply};
 use tko_route::Health;
@@ -21,7 +21,7 @@ impl<H: Health, L, C> Backend<H, L, C> {
         requires { server < H.servers self.old.health }
         ensures names { IfSome result (λ duty. duty ≡ server) }
         ensures sent { IfSome result (λ duty.
-            IsSent H.grants moment self.old server self.new) }
+            IsProbeSent H.grants moment self.old server self.new) }
         ensures passed { IfNone result
             (IsPassed H.steps H.grants moment self.old server self.new) }
         ensures others { (self.new.links ≡ self.old.links) × (self.new.clock ≡ self.old.clock) }

@@ -23,7 +23,7 @@ mod rounds;
 
 pub use backend::Backend;
 pub use delays::Delays;
-pub use prober::{AfterProbe, ProbeTurn, Probed, Prober, Stage};
+pub use prober::{AfterProbe, ProbeTurn, Probed, Prober, ProberStage};
 pub use probers::{ProbeSlot, Probers};
 pub use rounds::ProbeEnd;
 

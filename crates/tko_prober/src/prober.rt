@@ -1,13 +1,13 @@
 //! The probes of one marked server.
 ghost use Rattle.std.specs.Prelude.{◌≡◌, ◌↔◌, IsTrue};
 ghost use Rattle.tko_prober.specs.Delay.{due_after};
-ghost use Rattle.tko_prober.specs.Probes.{IsDue, begun, ended, sent, asked_after, with_result};
+ghost use Rattle.tko_prober.specs.Probes.{IsDue, begun_prober, ended, sent, asked_after, with_result};
 
 use crate::Delays;
 
 /// What a prober is at.
 #[derive(Clone, Copy, Debug, PartialEq, Eq)]
-pub enum Stage {
+pub enum ProberStage {
     /// No probe is out, and the next one is due at this moment, in milliseconds of the caller's
     /// clock.
     Waiting(u64),
@@ -52,19 +52,19 @@ pub enum AfterProbe {
 pub struct Prober {
     delays: Delays,
     results: u64,
-    stage: Stage,
+    stage: ProberStage,
 }
 
 impl Prober {
     /// A prober whose first probe is due at `now` plus the first delay. Moments are milliseconds of
     /// one clock of the caller's choice, here and below.
     pub fn begin(delays: Delays, now: u64) -> Prober
-        ensures { result ≡ begun delays now }
+        ensures { result ≡ begun_prober delays now }
     {
         Prober {
             delays,
             results: 0,
-            stage: Stage::Waiting(due(delays, 0, now)),
+            stage: ProberStage::Waiting(due(delays, 0, now)),
         }
     }
 
@@ -76,11 +76,11 @@ impl Prober {
         ensures rest { result ≡ ProbeTurn.Rest → self.new ≡ self.old }
     {
         match self.stage {
-            Stage::Waiting(moment) if moment <= now => {
-                self.stage = Stage::Out;
+            ProberStage::Waiting(moment) if moment <= now => {
+                self.stage = ProberStage::Out;
                 ProbeTurn::Send
             }
-            Stage::Waiting(_) | Stage::Out | Stage::Ended => ProbeTurn::Rest,
+            ProberStage::Waiting(_) | ProberStage::Out | ProberStage::Ended => ProbeTurn::Rest,
         }
     }
 
@@ -92,7 +92,7 @@ impl Prober {
     {
         match probed {
             Probed::Answered => {
-                self.stage = Stage::Ended;
+                self.stage = ProberStage::Ended;
                 AfterProbe::Recover
             }
             Probed::Refused => {
@@ -111,21 +111,21 @@ impl Prober {
         ensures { self.new ≡ with_result self.old now Probed.Failed }
     {
         self.results = self.results.saturating_add(1);
-        self.stage = Stage::Waiting(due(self.delays, self.results, now));
+        self.stage = ProberStage::Waiting(due(self.delays, self.results, now));
     }
 
     /// Ends the prober, for instance where the server is no longer this thread's to probe.
     pub fn stop(&mut self)
         ensures { self.new ≡ ended self.old }
     {
-        self.stage = Stage::Ended;
+        self.stage = ProberStage::Ended;
     }
 
     /// Whether a probe is out.
     pub fn is_out(&self) -> bool
         ensures { IsTrue result ↔ (self.now.stage ≡ Stage.Out) }
     {
-        matches!(self.stage, Stage::Out)
+        matches!(self.stage, ProberStage::Out)
     }
 }
 

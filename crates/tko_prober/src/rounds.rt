@@ -9,7 +9,7 @@ ghost use Rattle.tko_prober.specs.Servers.{HaveServers};
 
 use crate::{Backend, Probed};
 use tko_io::{Clock, IoRuntime};
-use tko_links::{Links, NoMemory, Outcome};
+use tko_links::{ExchangeNoMemory, Links, Outcome};
 use tko_model::{Duty, Reply};
 use tko_route::Health;
 
@@ -18,7 +18,7 @@ use tko_route::Health;
 pub struct ProbeEnd {
     pub server: usize,
     /// What came of it, or that memory ran out.
-    pub came: Result<Outcome, NoMemory>,
+    pub came: Result<Outcome, ExchangeNoMemory>,
     /// The health's reply to what was recorded of it, if anything was.
     pub reply: Option<Reply>,
     /// How often the server was probed, this probe included.
@@ -79,7 +79,7 @@ fn send_probe<R: IoRuntime, H: Health, L: Links>(
     _health: &H,
     links: &mut L,
     duty: Duty,
-) -> Result<Outcome, NoMemory>
+) -> Result<Outcome, ExchangeNoMemory>
     requires right { H.grants _health.now duty }
     requires within { duty < L.servers links.old }
     ensures record { WasProbed L.exchanges links.old duty result links.new }
@@ -93,7 +93,7 @@ fn send_probe<R: IoRuntime, H: Health, L: Links>(
 }
 
 /// What came of a probe, to its prober.
-fn probed_of(came: &Result<Outcome, NoMemory>) -> Probed
+fn probed_of(came: &Result<Outcome, ExchangeNoMemory>) -> Probed
     ensures { result ≡ probed_of came.now }
 {
     match came {

@@ -9,13 +9,13 @@ use Rattle.tko_text.specs.declared.response.Response.{Response}
 use Rattle.tko_text.specs.declared.response.Response.TheVariants as response
 use Rattle.tko_text.specs.Responses.{response_text}
 use Rattle.tko_pools.specs.Configs.{Configuration, targets_of}
-use Rattle.tko_route.specs.Calls.{Call}
-use Rattle.tko_route.specs.Trail.{IsTrail, Makes, answer_of}
+use Rattle.tko_route.specs.Calls.{RoutedCall}
+use Rattle.tko_route.specs.Trail.{IsTrail, MakesTrail, answer_of}
 use Rattle.tko_route.specs.declared.attempt.Attempt.{Attempt}
 use Rattle.tko_reply.specs.Answering.{retrieval}
 use Rattle.tko_reply.specs.Answers.{AreKeysRouted, IsKeyRouted, form_in, request_for, request_keys}
 use Rattle.tko_reply.specs.Interactions.{Interaction, Made, Recorded}
-use Rattle.tko_reply.specs.Replies.{HasValues, IsReply, RoutedKey, all_values, end_line, first_other, joined, reply_text, routed_key, text_of_answer, values_in, written}
+use Rattle.tko_reply.specs.Replies.{HasValues, IsReply, RoutedKey, all_values, end_line, first_other, joined_values, reply_written, routed_key, text_of_answer, trail_reply_text, values_text_in}
 use Rattle.tko_reply.specs.TrailEvents.{Tried}
 
 -- a request of one key is routed as it is
@@ -41,16 +41,16 @@ pub retrieval_keys : (keys : List (List ℕ)) (unique : Bool) → request_keys (
 retrieval_keys keys true = refl
 retrieval_keys keys false = refl
 
-pub retrieval_written : (keys : List (List ℕ)) (unique : Bool) (reply : List ℕ) → written (retrieval keys unique) reply ≡ reply
+pub retrieval_written : (keys : List (List ℕ)) (unique : Bool) (reply : List ℕ) → reply_written (retrieval keys unique) reply ≡ reply
 retrieval_written keys true reply = refl
 retrieval_written keys false reply = refl
 
-pub joined-append : (routed more : List RoutedKey) → joined (routed ++ more) ≡ joined routed ++ joined more
-joined-append routed more = flat_map-append (λ one. unwrap_or (values_in (answer_of one.trail)) []) routed more
+pub joined-append : (routed more : List RoutedKey) → joined_values (routed ++ more) ≡ joined_values routed ++ joined_values more
+joined-append routed more = flat_map-append (λ one. unwrap_or (values_text_in (answer_of one.trail)) []) routed more
 
 -- a response is a list of values, which `END` follows, or it is none
 values_or_not : (found : Option Response)
-    → (IsSome (values_in found) × (text_of_answer found ≡ unwrap_or (values_in found) [] ++ end_line)) ⊎ ¬ (IsSome (values_in found))
+    → (IsSome (values_text_in found) × (text_of_answer found ≡ unwrap_or (values_text_in found) [] ++ end_line)) ⊎ ¬ (IsSome (values_text_in found))
 unfolding response_text
 values_or_not None = inr (λ some. cc)
 values_or_not (Some (response.Values None)) = inl (refl, refl)
@@ -69,10 +69,10 @@ values_or_not (Some (response.ClientError text)) = inr (λ some. cc)
 values_or_not (Some (response.ServerError text)) = inr (λ some. cc)
 
 -- the reply to one key is that of its trail
-pub one_reply : (key : List ℕ) (trail : List Attempt) → IsReply 1 (key ∷ []) (routed_key key trail ∷ []) (reply_text trail)
+pub one_reply : (key : List ℕ) (trail : List Attempt) → IsReply 1 (key ∷ []) (routed_key key trail ∷ []) (trail_reply_text trail)
 one_reply key trail = elim (values_or_not (answer_of trail)) [
   | inl (some, text) ↦ all_values refl (All-cons HasValues (routed_key key trail) [] some (All-nil HasValues))
-      (text ∙ ap (λ xs. xs ++ end_line) (sym (append-nil (unwrap_or (values_in (answer_of trail)) []))))
+      (text ∙ ap (λ xs. xs ++ end_line) (sym (append-nil (unwrap_or (values_text_in (answer_of trail)) []))))
   | inr none ↦ first_other [] (routed_key key trail) [] [] refl (omega arith) refl (All-nil HasValues) none refl
 ]
 
@@ -91,13 +91,13 @@ keys_push config request (one ∷ routed) last was more (first, rest, key, later
 )
 
 -- a key that these calls gave its trail was routed, by a request for it that is asked so
-pub routed_by : {config : Configuration} {targets : List ℕ} {asked : Request} (request : Request) (key : List ℕ) (trail : List Attempt) (calls : List Call)
-    → targets ≡ targets_of config key → IsTrail targets trail → Makes (form_in config asked) calls trail → asked ≡ request_for request key
+pub routed_by : {config : Configuration} {targets : List ℕ} {asked : Request} (request : Request) (key : List ℕ) (trail : List Attempt) (calls : List RoutedCall)
+    → targets ≡ targets_of config key → IsTrail targets trail → MakesTrail (form_in config asked) calls trail → asked ≡ request_for request key
     → IsKeyRouted config request (routed_key key trail) (map Made calls ++ Recorded (Tried trail) ∷ [])
 routed_by {config} request key trail calls aims tried make is = record {
   tried = subst (λ targets. IsTrail targets trail) aims tried;
   calls = calls;
-  make = subst (λ (r : Request). Makes (form_in config r) calls trail) is make;
+  make = subst (λ (r : Request). MakesTrail (form_in config r) calls trail) is make;
   are = refl;
 }
 

@@ -9,12 +9,12 @@ use Rattle.tko_pools.specs.Configs.{Configuration}
 use Rattle.tko_route.specs.Routing.{GoesOn}
 use Rattle.tko_reply.specs.Answering.{IsSplit, retrieval}
 use Rattle.tko_reply.specs.Answers.{AnswersItself, IsKeyed, request_keys}
-use Rattle.tko_reply.specs.Asking.{Begins, IsFirst, by_key, itself, of_several}
+use Rattle.tko_reply.specs.Asking.{BeginsAnswer, IsFirst, by_key, itself, of_several}
 use Rattle.tko_reply.specs.Cuts.{IsBeginCut, LooksSome, in_status}
 use Rattle.tko_reply.specs.Replies.{version_text}
 use Rattle.tko_reply.specs.Status.{IsStatusAfter, looks_from}
 use Rattle.tko_reply.specs.declared.asking.OneKey.{OneKey}
-use Rattle.tko_reply.specs.declared.asking.Share.TheVariants as share
+use Rattle.tko_reply.specs.declared.asking.ReplyPart.TheVariants as share
 
 -- a request that the proxy does not answer itself
 pub is_keyed : (request : Request) → (request ≡ Version → ⊥) → (request ≡ Quit → ⊥) → (request ≡ StatsTko → ⊥) → IsKeyed request
@@ -84,7 +84,7 @@ first_several request waiting first left split =
 
 module _ {H : Type 0} {steps : H → HealthItem → H → Type 0} {config : Configuration} {outbox outbox' : List ℕ} {one : OneKey} {request : Request} where
   pub begins_version : (health : H) → request ≡ Version → outbox' ≡ outbox ++ version_text
-      → GoesOn steps health (λ calls. Begins config request outbox calls false one outbox') health
+      → GoesOn steps health (λ calls. BeginsAnswer config request outbox calls false one outbox') health
   begins_version health is more = record {
     items = [];
     gains = gains_none health;
@@ -92,7 +92,7 @@ module _ {H : Type 0} {steps : H → HealthItem → H → Type 0} {config : Conf
   }
 
   pub begins_status : {health health' : H} → request ≡ StatsTko → IsStatusAfter steps config.addresses (health, outbox) (health', outbox')
-      → GoesOn steps health (λ calls. Begins config request outbox calls false one outbox') health'
+      → GoesOn steps health (λ calls. BeginsAnswer config request outbox calls false one outbox') health'
   begins_status is after = record {
     items = after.status.looks;
     gains = after.status.gains;
@@ -100,7 +100,7 @@ module _ {H : Type 0} {steps : H → HealthItem → H → Type 0} {config : Conf
   }
 
 module _ {H : Type 0} {steps : H → HealthItem → H → Type 0} {config : Configuration} {outbox : List ℕ} {one : OneKey} {request : Request} where
-  pub begins_quit : (health : H) → request ≡ Quit → GoesOn steps health (λ calls. Begins config request outbox calls false one outbox) health
+  pub begins_quit : (health : H) → request ≡ Quit → GoesOn steps health (λ calls. BeginsAnswer config request outbox calls false one outbox) health
   begins_quit health is = record {
     items = [];
     gains = gains_none health;
@@ -109,7 +109,7 @@ module _ {H : Type 0} {steps : H → HealthItem → H → Type 0} {config : Conf
 
   -- a request begins with its first key
   pub begins_keyed : {waiting : ℕ} (health : H) → waiting ≡ length outbox → IsFirst request waiting one
-      → GoesOn steps health (λ calls. Begins config request outbox calls true one outbox) health
+      → GoesOn steps health (λ calls. BeginsAnswer config request outbox calls true one outbox) health
   begins_keyed health len first = record {
     items = [];
     gains = gains_none health;

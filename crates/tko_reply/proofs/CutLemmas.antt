@@ -3,9 +3,9 @@ use Rattle.std.proofs.Common.{◌≡◌, ℕ, Bool, List, [], ◌∷◌, ◌++�
 use Rattle.std.proofs.lemmas.List.Elements.{All-nil}
 use Rattle.tko_text.specs.declared.request.Request.{Request}
 use Rattle.tko_pools.specs.Configs.{Configuration, targets_of}
-use Rattle.tko_route.specs.Calls.{Call, came}
+use Rattle.tko_route.specs.Calls.{RoutedCall, came}
 use Rattle.tko_route.specs.Routing.{FindsUp}
-use Rattle.tko_route.specs.Trail.{IsCutTrail, IsTrail, Makes, next_target}
+use Rattle.tko_route.specs.Trail.{IsCutTrail, IsTrail, MakesTrail, next_target}
 use Rattle.tko_route.specs.declared.attempt.Attempt.{Attempt}
 use Rattle.tko_reply.specs.Answering.{retrieval}
 use Rattle.tko_reply.specs.Answers.{form_in, request_for, request_keys}
@@ -14,7 +14,7 @@ use Rattle.tko_reply.specs.Cuts.{EndsBy, IsAnswerCut, IsBeginCut, IsKeyCut, KeyL
 use Rattle.tko_reply.specs.Cuts as cut
 use Rattle.tko_reply.specs.Interactions.{Interaction, Made, Noted}
 use Rattle.tko_reply.specs.Replies.{HasValues}
-use Rattle.tko_reply.specs.Standing.{Asking}
+use Rattle.tko_reply.specs.Standing.{SentKey}
 use Rattle.tko_reply.specs.declared.asking.OneKey.{OneKey}
 use Rattle.tko_reply.proofs.AnsweringLemmas.{request_for_alone, request_for_one, retrieval_keys}
 use Rattle.tko_reply.proofs.DrivingLemmas.{rearranged}
@@ -28,7 +28,7 @@ pub data NotedAs (attempts : List Attempt) (last : List Interaction) : Type 0 wh
 
 -- memory ran out after these calls more, and then the marks of these attempts were noted
 pub record CutAfter (config : Configuration) (request : Request) (was : List Interaction)
-    (calls : List Call) (attempts : List Attempt) : Type 0 where
+    (calls : List RoutedCall) (attempts : List Attempt) : Type 0 where
   pub last : List Interaction
   pub noted : NotedAs attempts last
   pub is : IsAnswerCut config request (was ++ (map Made calls ++ last))
@@ -39,7 +39,7 @@ module _ {config : Configuration} where
   cut_at_once request = cut.at_keys [] (request_keys request) [] [] refl refl (All-nil HasValues) (cut.untried refl) refl
 
   -- memory ran out where a request began
-  pub begin_cut : {request : Request} {calls : List Call} → IsBeginCut config request calls → IsAnswerCut config request (map Made calls)
+  pub begin_cut : {request : Request} {calls : List RoutedCall} → IsBeginCut config request calls → IsAnswerCut config request (map Made calls)
   begin_cut {request} (cut.nothing none) = subst (λ cs. IsAnswerCut config request (map Made cs)) (sym none) (cut_at_once request)
   begin_cut {request} (cut.in_status servers unlooked is all are) = cut.in_status servers unlooked is all (ap (map Made) are)
 
@@ -76,12 +76,12 @@ module _ {config : Configuration} where
       (cut.at_first key left refl (lost (retrieval all unique) (sym (request_for_one all unique key) ∙ sym (ap (λ (o : OneKey). o.request) e)))) refl)
 
   -- a key was routed, and its reply or its trail was lost
-  cut_lost : {request : Request} {outbox outbox' : List ℕ} {was : List Interaction} {key : List ℕ} {one : OneKey} (trail : List Attempt) (calls : List Call)
-      → IsAt config request outbox key one was outbox' → IsTrail (targets_of config key) trail → Makes (form_in config one.request) calls trail
+  cut_lost : {request : Request} {outbox outbox' : List ℕ} {was : List Interaction} {key : List ℕ} {one : OneKey} (trail : List Attempt) (calls : List RoutedCall)
+      → IsAt config request outbox key one was outbox' → IsTrail (targets_of config key) trail → MakesTrail (form_in config one.request) calls trail
       → IsAnswerCut config request (was ++ (map Made calls ++ Noted trail ∷ []))
   cut_lost trail calls at tried make = cut_in (map Made calls ++ Noted trail ∷ []) at
       (λ other same. cut.reply_lost trail calls tried
-      (subst (λ (r : Request). Makes (form_in config r) calls trail) (sym same) make) refl)
+      (subst (λ (r : Request). MakesTrail (form_in config r) calls trail) (sym same) make) refl)
 
   -- the trail of a key was lost
   pub tried_cut : {request : Request} {outbox outbox' : List ℕ} {trail : List Attempt} {one : OneKey} {was : List Interaction}
@@ -92,7 +92,7 @@ module _ {config : Configuration} where
       (cut_lost trail it.calls it.at it.tried it.make)
 
   -- memory ran out where a key was begun
-  pub key_cut : {request : Request} {outbox outbox' : List ℕ} {was : List Interaction} {key : List ℕ} {one : OneKey} {calls : List Call} {attempts : List Attempt}
+  pub key_cut : {request : Request} {outbox outbox' : List ℕ} {was : List Interaction} {key : List ℕ} {one : OneKey} {calls : List RoutedCall} {attempts : List Attempt}
       → IsAt config request outbox key one was outbox' → KeyLost config one.request calls attempts → CutAfter config request was calls attempts
   key_cut {request} {was = was} at (cut.untried none no_attempts) = record {
     last = [];
@@ -104,7 +104,7 @@ module _ {config : Configuration} where
       record { last = Noted attempts ∷ []; noted = marks refl; is = cut_lost attempts calls at it.tried it.make }
 
   -- memory ran out where what came of a send was recorded
-  pub gone_cut : {request : Request} {outbox outbox' : List ℕ} {was : List Interaction} {clear : ℕ} {it : Asking} {targets : List ℕ} {attempts : List Attempt} {more : List Call}
+  pub gone_cut : {request : Request} {outbox outbox' : List ℕ} {was : List Interaction} {clear : ℕ} {it : SentKey} {targets : List ℕ} {attempts : List Attempt} {more : List RoutedCall}
       → (sending : IsSending config request outbox clear it targets was outbox')
       → EndsBy targets (form_in config sending.first.request) (sending.calls ++ more) attempts
       → CutAfter config request was more attempts
@@ -117,7 +117,7 @@ module _ {config : Configuration} where
   }
 
   -- memory ran out at the send
-  pub sent_cut : {request : Request} {outbox outbox' : List ℕ} {was : List Interaction} {clear : ℕ} {it : Asking} {targets : List ℕ} (was_sent : Bool)
+  pub sent_cut : {request : Request} {outbox outbox' : List ℕ} {was : List Interaction} {clear : ℕ} {it : SentKey} {targets : List ℕ} (was_sent : Bool)
       → IsSending config request outbox clear it targets was outbox'
       → IsAnswerCut config request (was ++ Made (came it.waiting.server it.key.request (Err (record { sent = was_sent }))) ∷ Noted it.waiting.attempts ∷ [])
   sent_cut {request} {was = was} {it = it} was_sent sending =

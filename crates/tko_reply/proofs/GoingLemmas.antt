@@ -6,24 +6,24 @@ use Rattle.tko_text.specs.declared.request.Request.{Request}
 use Rattle.tko_text.specs.declared.response.Response.{Response}
 use Rattle.tko_links.specs.declared.links.Outcome.{Outcome}
 use Rattle.tko_pools.specs.Configs.{Configuration}
-use Rattle.tko_route.specs.Calls.{Call, Told, came}
+use Rattle.tko_route.specs.Calls.{RoutedCall, Told, came}
 use Rattle.tko_route.specs.Routing.{FindsUp, GoesOn, Reached, came_of, last_place}
 use Rattle.tko_route.specs.Trail.{answer_of, form_at}
 use Rattle.tko_route.specs.declared.attempt.Attempt.{Attempt}
 use Rattle.tko_route.specs.declared.routing.Stage.{Stage}
 use Rattle.tko_route.specs.declared.routing.Stage.TheVariants as stage
 use Rattle.tko_reply.specs.Answering.{Extends}
-use Rattle.tko_reply.specs.Asking.{Continues, Goes, GoesTo, Replies, Settles, course_of, front_of}
+use Rattle.tko_reply.specs.Asking.{ContinuesKeys, Goes, GoesTo, Replies, Settles, course_of, front_of}
 use Rattle.tko_reply.specs.Cuts.{EndsBy, IsEndOf, KeyLost, tried, untried}
 use Rattle.tko_reply.specs.Sends.{AfterSend}
-use Rattle.tko_reply.specs.Standing.{Asking}
+use Rattle.tko_reply.specs.Standing.{SentKey}
 use Rattle.tko_reply.specs.declared.asking.OneKey.{OneKey}
-use Rattle.tko_reply.specs.declared.asking.Share.{Share}
-use Rattle.tko_reply.specs.declared.asking.Share.TheVariants as share
+use Rattle.tko_reply.specs.declared.asking.ReplyPart.{ReplyPart}
+use Rattle.tko_reply.specs.declared.asking.ReplyPart.TheVariants as share
 use Rattle.tko_reply.proofs.OutboxLemmas.{extends_front, extends_same}
 
 -- the replies that stay are there
-pub front_same : (kind : Share) (outbox : List ℕ) → Extends (front_of kind outbox) outbox
+pub front_same : (kind : ReplyPart) (outbox : List ℕ) → Extends (front_of kind outbox) outbox
 front_same (share.Whole silent) outbox = extends_same outbox
 front_same (share.Joined begin left) outbox = extends_front begin outbox
 
@@ -34,11 +34,11 @@ ended_at to one one' outbox outbox' {found} trail is request same replies =
     subst (λ s. Settles s one outbox one' outbox') (sym is) (request, subst (λ f. Replies one.share f outbox one'.share outbox') same replies)
 
 -- one of several keys, with the share that it has
-pub continues_at : {request request' : Request} {kind : Share} {begin : ℕ} {left left' : List (List ℕ)} {outbox outbox' : List ℕ} {keyed : Bool} → kind ≡ share.Joined begin left
-    → ((n : ℕ) → Continues (record { request = request; share = share.Joined n left }) outbox keyed (record { request = request'; share = share.Joined n left' }) outbox')
-    → Continues (record { request = request; share = kind }) outbox keyed (record { request = request'; share = share.Joined begin left' }) outbox'
+pub continues_at : {request request' : Request} {kind : ReplyPart} {begin : ℕ} {left left' : List (List ℕ)} {outbox outbox' : List ℕ} {keyed : Bool} → kind ≡ share.Joined begin left
+    → ((n : ℕ) → ContinuesKeys (record { request = request; share = share.Joined n left }) outbox keyed (record { request = request'; share = share.Joined n left' }) outbox')
+    → ContinuesKeys (record { request = request; share = kind }) outbox keyed (record { request = request'; share = share.Joined begin left' }) outbox'
 continues_at {request} {request'} {kind} {begin} {left} {left'} {outbox} {outbox'} {keyed} is on =
-    subst (λ k. Continues (record { request = request; share = k }) outbox keyed (record { request = request'; share = share.Joined begin left' }) outbox') (sym is) (on begin)
+    subst (λ k. ContinuesKeys (record { request = request; share = k }) outbox keyed (record { request = request'; share = share.Joined begin left' }) outbox') (sym is) (on begin)
 
 -- the form of a request after an outcome was recorded
 form_then : (to : Stage) (original request request' : Request) (place exptime exptime' : ℕ) → exptime' ≡ exptime
@@ -49,7 +49,7 @@ form_then to original request request' place exptime exptime' same is then =
     subst (λ e. request' ≡ form_at e original (last_place to)) same (then original (is ∙ ap (λ e. form_at e original place) (sym same)))
 
 -- a routing that ended, by the trail that it ended with
-ends_by : {targets : List ℕ} {form : ℕ → Request} {calls : List Call} (to : Stage) (trail : List Attempt)
+ends_by : {targets : List ℕ} {form : ℕ → Request} {calls : List RoutedCall} (to : Stage) (trail : List Attempt)
     → Reached targets form calls to → IsEndOf to trail → EndsBy targets form calls trail
 ends_by (stage.Away clear waiting) trail reached is = absurd is
 ends_by {targets} {form} {calls} (stage.Done all) trail reached is =
@@ -57,7 +57,7 @@ ends_by {targets} {form} {calls} (stage.Done all) trail reached is =
 
 module _ {H : Type 0} {steps : H → HealthItem → H → Type 0} {old new : H} where
   -- a key was begun
-  pub begin_goes : {outbox outbox' : List ℕ} {at : Stage} {one : OneKey} (to : Stage) (targets : List ℕ) (kind : Share)
+  pub begin_goes : {outbox outbox' : List ℕ} {at : Stage} {one : OneKey} (to : Stage) (targets : List ℕ) (kind : ReplyPart)
       (request : Request) (form : ℕ → Request) → request ≡ form (last_place to)
       → GoesOn steps old (λ calls. (f : ℕ → Request) → Reached targets f calls to) new
       → at ≡ to → Settles to (record { request = request; share = kind }) outbox one outbox'
@@ -84,10 +84,10 @@ module _ {H : Type 0} {steps : H → HealthItem → H → Type 0} {old new : H} 
       }
 
   -- what came of a send was recorded by these calls, before those that are its own
-  pub answered_goes : {outbox outbox' : List ℕ} {at : Stage} {one : OneKey} (config : Configuration) (to : Stage) (it : Asking) (targets : List ℕ)
-      (got : Outcome) (told : List Call) (exptime' : ℕ) (request' : Request) → exptime' ≡ config.failover_exptime
+  pub answered_goes : {outbox outbox' : List ℕ} {at : Stage} {one : OneKey} (config : Configuration) (to : Stage) (it : SentKey) (targets : List ℕ)
+      (got : Outcome) (told : List RoutedCall) (exptime' : ℕ) (request' : Request) → exptime' ≡ config.failover_exptime
       → ((r : Request) → it.key.request ≡ form_at exptime' r (length it.waiting.attempts) → request' ≡ form_at exptime' r (last_place to))
-      → GoesOn steps old (λ more. (form : ℕ → Request) (calls : List Call) → FindsUp form calls it.waiting.attempts it.waiting.server
+      → GoesOn steps old (λ more. (form : ℕ → Request) (calls : List RoutedCall) → FindsUp form calls it.waiting.attempts it.waiting.server
       → Reached targets form (calls ++ came_of form it.waiting got ∷ (told ++ more)) to) new
       → at ≡ to → Settles to (record { request = request'; share = it.key.share }) outbox one outbox'
       → GoesOn steps old (λ more. AfterSend config it got (λ original calls. Goes (course_of config targets it.key original) (calls (told ++ more)) outbox at one outbox')) new
@@ -106,8 +106,8 @@ module _ {H : Type 0} {steps : H → HealthItem → H → Type 0} {old new : H} 
       })
 
   -- memory ran out there
-  pub answered_lost : (config : Configuration) (to : Stage) (it : Asking) (targets : List ℕ) (got : Outcome) (told : List Call) (trail : List Attempt)
-      → GoesOn steps old (λ more. (form : ℕ → Request) (calls : List Call) → FindsUp form calls it.waiting.attempts it.waiting.server
+  pub answered_lost : (config : Configuration) (to : Stage) (it : SentKey) (targets : List ℕ) (got : Outcome) (told : List RoutedCall) (trail : List Attempt)
+      → GoesOn steps old (λ more. (form : ℕ → Request) (calls : List RoutedCall) → FindsUp form calls it.waiting.attempts it.waiting.server
       → Reached targets form (calls ++ came_of form it.waiting got ∷ (told ++ more)) to) new
       → IsEndOf to trail
       → GoesOn steps old (λ more. AfterSend config it got (λ original calls. EndsBy targets (form_at config.failover_exptime original) (calls (told ++ more)) trail)) new

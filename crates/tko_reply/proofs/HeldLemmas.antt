@@ -5,23 +5,23 @@ use Rattle.tko_text.specs.declared.request.Request.{Request}
 use Rattle.tko_text.specs.declared.response.Response.{Response}
 use Rattle.std.specs.Prelude.{Option}
 use Rattle.tko_pools.specs.Configs.{AreServers, Configuration}
-use Rattle.tko_route.specs.Calls.{Call}
+use Rattle.tko_route.specs.Calls.{RoutedCall}
 use Rattle.tko_route.specs.Routing.{Reached, last_place}
 use Rattle.tko_route.specs.Trail.{form_at}
 use Rattle.tko_route.specs.declared.routing.Stage.{Stage}
 use Rattle.tko_route.specs.declared.routing.Stage.TheVariants as stage
 use Rattle.tko_reply.specs.Answering.{Extends}
-use Rattle.tko_reply.specs.Asking.{BeginsAt, Continues, Goes, HasFront, IsFirst, Replies, Settles, course_of, front_of}
+use Rattle.tko_reply.specs.Asking.{BeginsAt, ContinuesKeys, Goes, HasFront, IsFirst, Replies, Settles, course_of, front_of}
 use Rattle.tko_reply.specs.Asking as asked
 use Rattle.tko_reply.specs.Replies.{text_of_answer}
 use Rattle.tko_reply.specs.Sends.{IsSent}
 use Rattle.tko_reply.specs.Standing.{asking}
 use Rattle.tko_reply.specs.declared.asking.OneKey.{OneKey}
-use Rattle.tko_reply.specs.declared.asking.Share.{Share}
-use Rattle.tko_reply.specs.declared.asking.Share.TheVariants as share
+use Rattle.tko_reply.specs.declared.asking.ReplyPart.{ReplyPart}
+use Rattle.tko_reply.specs.declared.asking.ReplyPart.TheVariants as share
 
 -- the replies from before the request stay, whatever was put after them
-pub front_stays : (begin : ℕ) (kind : Share) (outbox outbox' : List ℕ) → BeginsAt begin kind outbox → Extends (front_of kind outbox) outbox'
+pub front_stays : (begin : ℕ) (kind : ReplyPart) (outbox outbox' : List ℕ) → BeginsAt begin kind outbox → Extends (front_of kind outbox) outbox'
     → take begin outbox' ≡ take begin outbox
 front_stays begin (share.Whole silent) outbox outbox' within more =
     ap (take begin) more.is ∙ take-append-le begin outbox more.more within
@@ -29,7 +29,7 @@ front_stays begin (share.Joined first left) outbox outbox' (same, within) more =
     let front : outbox' ≡ take begin outbox ++ more.more = more.is ∙ ap (λ n. take n outbox ++ more.more) same in
     ap (take begin) front ∙ take_at (take begin outbox) more.more begin (length-take-le begin outbox within)
 
-pub has_front : (begin : ℕ) (kind : Share) (outbox : List ℕ) → BeginsAt begin kind outbox → HasFront kind outbox
+pub has_front : (begin : ℕ) (kind : ReplyPart) (outbox : List ℕ) → BeginsAt begin kind outbox → HasFront kind outbox
 has_front begin (share.Whole silent) outbox held = tt
 has_front begin (share.Joined first left) outbox (same, within) = subst (λ n. n ≤ length outbox) (sym same) within
 
@@ -42,7 +42,7 @@ held_more : {begin : ℕ} (outbox outbox' more : List ℕ) → outbox' ≡ outbo
 held_more outbox outbox' more is within = omega (arith, within, length-append outbox more, ap length is)
 
 -- a key has ended
-replies_held : (found : Option Response) (outbox outbox' : List ℕ) (begin : ℕ) (kind kind' : Share) → BeginsAt begin kind outbox
+replies_held : (found : Option Response) (outbox outbox' : List ℕ) (begin : ℕ) (kind kind' : ReplyPart) → BeginsAt begin kind outbox
     → Replies kind found outbox kind' outbox' → BeginsAt begin kind' outbox'
 replies_held found outbox outbox' begin (share.Whole silent) kind' within (same, text) =
     let within' : begin ≤ length outbox' = held_more outbox outbox' _ text within in
@@ -65,7 +65,7 @@ settled_held outbox outbox' begin (stage.Away clear waiting) one one' held (is, 
 settled_held outbox outbox' begin (stage.Done trail) one one' held (is, replies) =
     replies_held _ outbox outbox' begin one.share one'.share held replies
 
-settled_awaits : (outbox outbox' : List ℕ) (targets : List ℕ) (original : Request) (calls : List Call) (config : Configuration) (to : Stage) (one one' : OneKey)
+settled_awaits : (outbox outbox' : List ℕ) (targets : List ℕ) (original : Request) (calls : List RoutedCall) (config : Configuration) (to : Stage) (one one' : OneKey)
     → AreServers config targets → one.request ≡ form_at config.failover_exptime original (last_place to)
     → Reached targets (form_at config.failover_exptime original) calls to → Settles to one outbox one' outbox' → AwaitsAt config targets to one'
 settled_awaits outbox outbox' targets original calls config (stage.Away clear waiting) one one' are form reached (is, same) =
@@ -76,11 +76,11 @@ settled_awaits outbox outbox' targets original calls config (stage.Done trail) o
 
 -- where the answer to a request goes on, its reply begins where it did, and a send that is out is to
 -- one of the targets
-pub goes_held : (config : Configuration) {targets : List ℕ} (one : OneKey) (original : Request) {calls : List Call} {outbox outbox' : List ℕ} {to : Stage} {one' : OneKey} (begin : ℕ)
+pub goes_held : (config : Configuration) {targets : List ℕ} (one : OneKey) (original : Request) {calls : List RoutedCall} {outbox outbox' : List ℕ} {to : Stage} {one' : OneKey} (begin : ℕ)
     → BeginsAt begin one.share outbox → Goes (course_of config targets one original) calls outbox to one' outbox' → BeginsAt begin one'.share outbox'
 goes_held config one original {outbox = outbox} {outbox' = outbox'} {to = to} {one' = one'} begin held goes = settled_held outbox outbox' begin to _ one' held goes.settles
 
-pub goes_awaits : {targets : List ℕ} (one : OneKey) {calls : List Call} {outbox outbox' : List ℕ} {to : Stage} {one' : OneKey}
+pub goes_awaits : {targets : List ℕ} (one : OneKey) {calls : List RoutedCall} {outbox outbox' : List ℕ} {to : Stage} {one' : OneKey}
     (config : Configuration) (original : Request) → AreServers config targets
     → Goes (course_of config targets one original) calls outbox to one' outbox' → AwaitsAt config targets to one'
 goes_awaits {targets} one {calls} {outbox} {outbox'} {to} {one'} config original are goes =
@@ -98,7 +98,7 @@ true_or_false : true ≡ false → ⊥
 true_or_false e = cc
 
 -- the next of several keys
-pub next_held : (begin : ℕ) (one other : OneKey) (outbox outbox' : List ℕ) → BeginsAt begin one.share outbox → Continues one outbox true other outbox'
+pub next_held : (begin : ℕ) (one other : OneKey) (outbox outbox' : List ℕ) → BeginsAt begin one.share outbox → ContinuesKeys one outbox true other outbox'
     → BeginsAt begin other.share outbox'
 next_held begin one other outbox outbox' held (asked.complete silent kind over same) = absurd (true_or_false over)
 next_held begin one other outbox outbox' held (asked.last first kind over same) = absurd (true_or_false over)

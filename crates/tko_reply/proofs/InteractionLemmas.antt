@@ -6,7 +6,7 @@ use Rattle.tko_model.specs.Records.{Gains, HealthItem, Lead}
 use Rattle.tko_model.proofs.RecordLemmas.{gains_none, gains_one}
 use Rattle.tko_text.specs.declared.request.Request.{Request}
 use Rattle.tko_pools.specs.Configs.{Configuration}
-use Rattle.tko_route.specs.Calls.{Call, Came, Told, sends_of}
+use Rattle.tko_route.specs.Calls.{Came, RoutedCall, Told, sends_of}
 use Rattle.tko_route.specs.Trail.{sends_in}
 use Rattle.tko_route.specs.declared.attempt.Attempt.{Attempt}
 use Rattle.tko_route.proofs.TrailLemmas.{sends_by_trail}
@@ -84,7 +84,7 @@ performs {ghosts = ghosts} Holds {old} {new} {done} is gains = record {
   probes = λ server. (counted_all ghosts server old done new gains.leads).2;
 }
 
-made_sends : (server : ℕ) (calls : List Call) → sum_by (sends_by server) (map Made calls) ≡ sum_by (sends_of server) calls
+made_sends : (server : ℕ) (calls : List RoutedCall) → sum_by (sends_by server) (map Made calls) ≡ sum_by (sends_of server) calls
 made_sends server [] = refl
 made_sends server (call ∷ calls) =
     let here : sum_by (sends_by server) (Made call ∷ map Made calls) ≡ 0 + sends_of server call + sum_by (sends_by server) (map Made calls) = sum_by-append (sends_by server) (Made call ∷ []) (map Made calls) in

@@ -4,22 +4,22 @@ use Rattle.std.specs.Prelude.{unwrap_or}
 use Rattle.std.proofs.lemmas.List.{map-append, take_at}
 use Rattle.std.proofs.lemmas.List.Elements.{All-append, All-cons, All-nil}
 use Rattle.tko_text.specs.declared.request.Request.{Request}
-use Rattle.tko_text.specs.SentRequests.{is_silent, without_noreply}
+use Rattle.tko_text.specs.SentRequests.{asks_no_reply, without_noreply}
 use Rattle.tko_pools.specs.Configs.{Configuration, targets_of}
-use Rattle.tko_route.specs.Calls.{Call}
-use Rattle.tko_route.specs.Trail.{IsTrail, Makes, answer_of, form_at}
+use Rattle.tko_route.specs.Calls.{RoutedCall}
+use Rattle.tko_route.specs.Trail.{IsTrail, MakesTrail, answer_of, form_at}
 use Rattle.tko_route.specs.declared.attempt.Attempt.{Attempt}
 use Rattle.tko_reply.specs.Answering.{retrieval}
 use Rattle.tko_reply.specs.Answers.{IsKeyRouted, form_in, request_keys}
 use Rattle.tko_reply.specs.Answers as answers
-use Rattle.tko_reply.specs.Asking.{Continues, Joins, Replies}
+use Rattle.tko_reply.specs.Asking.{ContinuesKeys, Joins, Replies}
 use Rattle.tko_reply.specs.Asking as asked
 use Rattle.tko_reply.specs.Interactions.{Interaction, Made, Recorded}
-use Rattle.tko_reply.specs.Replies.{HasValues, IsReply, RoutedKey, all_values, end_line, first_other, joined, keys_in, reply_text, routed_key, values_in, written}
+use Rattle.tko_reply.specs.Replies.{HasValues, IsReply, RoutedKey, all_values, end_line, first_other, joined_values, keys_in, reply_written, routed_key, trail_reply_text, values_text_in}
 use Rattle.tko_reply.specs.TrailEvents.{Tried}
 use Rattle.tko_reply.specs.declared.asking.OneKey.{OneKey}
-use Rattle.tko_reply.specs.declared.asking.Share.{Share}
-use Rattle.tko_reply.specs.declared.asking.Share.TheVariants as share
+use Rattle.tko_reply.specs.declared.asking.ReplyPart.{ReplyPart}
+use Rattle.tko_reply.specs.declared.asking.ReplyPart.TheVariants as share
 use Rattle.tko_reply.proofs.AnsweringLemmas.{joined-append, keys_push, one_reply, request_for_alone, request_for_one, retrieval_keys, retrieval_written, routed_by}
 use Rattle.tko_reply.proofs.StandsLemmas.{IsAnswered, IsAt, IsPast, JoinsOn, alone, among, complete, only, values_joined}
 
@@ -46,14 +46,14 @@ begin_same e = cc
 
 key_same : (one other : OneKey) → one.request ≡ other.request → one.share ≡ other.share → one ≡ other
 key_same one other request kind =
-    ap (λ (r : Request). record { request = r; share = one.share }) request ∙ ap (λ (s : Share). record { request = other.request; share = s }) kind
+    ap (λ (r : Request). record { request = r; share = one.share }) request ∙ ap (λ (s : ReplyPart). record { request = other.request; share = s }) kind
 
 module _ {config : Configuration} where
   -- the values of one of several keys were joined
   joins_more : {outbox outbox' outbox'' : List ℕ} {was : List Interaction} (all : List (List ℕ)) (unique : Bool) (key : List ℕ) (rest : List (List ℕ)) (trail : List Attempt) (more : List Interaction)
       → JoinsOn config (retrieval all unique) all (key ∷ rest) outbox was outbox'
       → IsKeyRouted config (retrieval all unique) (routed_key key trail) more → HasValues (routed_key key trail)
-      → outbox'' ≡ outbox' ++ unwrap_or (values_in (answer_of trail)) []
+      → outbox'' ≡ outbox' ++ unwrap_or (values_text_in (answer_of trail)) []
       → JoinsOn config (retrieval all unique) all rest outbox (was ++ more) outbox''
   joins_more {outbox} {outbox'} {outbox''} {was} all unique key rest trail more so_far is some then =
       let last : RoutedKey = routed_key key trail in
@@ -65,8 +65,8 @@ module _ {config : Configuration} where
         each = keys_push config (retrieval all unique) so_far.routed last was more so_far.each is;
         values = All-append HasValues so_far.routed (last ∷ []) so_far.values (All-cons HasValues last [] some (All-nil HasValues));
         appended =
-            then ∙ ap (λ xs. outbox' ++ xs) (sym (append-nil (unwrap_or (values_in (answer_of trail)) [])))
-            ∙ ap (λ xs. xs ++ joined (last ∷ [])) so_far.appended ∙ append_assoc outbox (joined so_far.routed) (joined (last ∷ []))
+            then ∙ ap (λ xs. outbox' ++ xs) (sym (append-nil (unwrap_or (values_text_in (answer_of trail)) [])))
+            ∙ ap (λ xs. xs ++ joined_values (last ∷ [])) so_far.appended ∙ append_assoc outbox (joined_values so_far.routed) (joined_values (last ∷ []))
             ∙ ap (λ xs. outbox ++ xs) (sym (joined-append so_far.routed (last ∷ [])));
       }
 
@@ -74,7 +74,7 @@ module _ {config : Configuration} where
   joins_cut : {outbox outbox' outbox'' : List ℕ} {was : List Interaction} (all : List (List ℕ)) (unique : Bool) (key : List ℕ) (rest : List (List ℕ)) (trail : List Attempt) (more : List Interaction)
       → 0 < length all → JoinsOn config (retrieval all unique) all (key ∷ rest) outbox was outbox'
       → IsKeyRouted config (retrieval all unique) (routed_key key trail) more → ¬ HasValues (routed_key key trail)
-      → outbox'' ≡ take (length outbox) outbox' ++ reply_text trail
+      → outbox'' ≡ take (length outbox) outbox' ++ trail_reply_text trail
       → IsAnswered config (retrieval all unique) outbox (was ++ more) outbox''
   joins_cut {outbox} {outbox'} {outbox''} {was} all unique key rest trail more some so_far is none then =
       let last : RoutedKey = routed_key key trail in
@@ -83,18 +83,18 @@ module _ {config : Configuration} where
       ∙ ap (λ xs. xs ++ rest) (sym (map-append (λ it. it.key) so_far.routed (last ∷ []))) in
       record {
         routed = so_far.routed ++ last ∷ [];
-        text = reply_text trail;
+        text = trail_reply_text trail;
         answers = answers.by_keys (record {
           some = subst (λ keys. 0 < length keys) (sym (retrieval_keys all unique)) some;
           each = keys_push config (retrieval all unique) so_far.routed last was more so_far.each is;
-          reply = reply_text trail;
+          reply = trail_reply_text trail;
           is_reply = first_other so_far.routed last [] rest refl (omega arith) (retrieval_keys all unique ∙ are) so_far.values none refl;
-          is_written = sym (retrieval_written all unique (reply_text trail));
+          is_written = sym (retrieval_written all unique (trail_reply_text trail));
         });
         appended =
             let front : take (length outbox) outbox' ≡ outbox =
-            ap (take (length outbox)) so_far.appended ∙ take_at outbox (joined so_far.routed) (length outbox) refl in
-            then ∙ ap (λ xs. xs ++ reply_text trail) front;
+            ap (take (length outbox)) so_far.appended ∙ take_at outbox (joined_values so_far.routed) (length outbox) refl in
+            then ∙ ap (λ xs. xs ++ trail_reply_text trail) front;
       }
 
   -- all of several keys got lists of values
@@ -103,21 +103,21 @@ module _ {config : Configuration} where
       → IsAnswered config (retrieval all unique) outbox was outbox''
   joins_all {outbox} {outbox'} {outbox''} {was} all unique some so_far end = record {
     routed = so_far.routed;
-    text = joined so_far.routed ++ end_line;
+    text = joined_values so_far.routed ++ end_line;
     answers = answers.by_keys (record {
       some = subst (λ keys. 0 < length keys) (sym (retrieval_keys all unique)) some;
       each = so_far.each;
-      reply = joined so_far.routed ++ end_line;
+      reply = joined_values so_far.routed ++ end_line;
       is_reply =
           let are : request_keys (retrieval all unique) ≡ keys_in so_far.routed =
           retrieval_keys all unique ∙ so_far.are ∙ append-nil (keys_in so_far.routed) in
           all_values are so_far.values refl;
-      is_written = sym (retrieval_written all unique (joined so_far.routed ++ end_line));
+      is_written = sym (retrieval_written all unique (joined_values so_far.routed ++ end_line));
     });
-    appended = end ∙ ap (λ xs. xs ++ end_line) so_far.appended ∙ append_assoc outbox (joined so_far.routed) end_line;
+    appended = end ∙ ap (λ xs. xs ++ end_line) so_far.appended ∙ append_assoc outbox (joined_values so_far.routed) end_line;
   }
 
-  past_among : {outbox outbox' outbox'' : List ℕ} {was : List Interaction} {kind : Share} (all left : List (List ℕ)) (unique : Bool) (key : List ℕ) (trail : List Attempt) (asking : Request) (more : List Interaction)
+  past_among : {outbox outbox' outbox'' : List ℕ} {was : List Interaction} {kind : ReplyPart} (all left : List (List ℕ)) (unique : Bool) (key : List ℕ) (trail : List Attempt) (asking : Request) (more : List Interaction)
       → 0 < length all → JoinsOn config (retrieval all unique) all (key ∷ left) outbox was outbox'
       → IsKeyRouted config (retrieval all unique) (routed_key key trail) more → asking ≡ only key unique
       → Joins (length outbox) left (answer_of trail) outbox' kind outbox''
@@ -128,8 +128,8 @@ module _ {config : Configuration} where
       values_joined all left unique key refl some (key_same _ _ form kind) (joins_more all unique key left trail more so_far is found text)
 
   -- a key has ended, and its trail was recorded
-  pub past_ended : {request : Request} {outbox outbox' outbox'' : List ℕ} {was : List Interaction} {key : List ℕ} {first : OneKey} {kind : Share} (trail : List Attempt) (calls : List Call) (place : ℕ)
-      → IsAt config request outbox key first was outbox' → IsTrail (targets_of config key) trail → Makes (form_in config first.request) calls trail
+  pub past_ended : {request : Request} {outbox outbox' outbox'' : List ℕ} {was : List Interaction} {key : List ℕ} {first : OneKey} {kind : ReplyPart} (trail : List Attempt) (calls : List RoutedCall) (place : ℕ)
+      → IsAt config request outbox key first was outbox' → IsTrail (targets_of config key) trail → MakesTrail (form_in config first.request) calls trail
       → Replies first.share (answer_of trail) outbox' kind outbox''
       → IsPast config request outbox (record { request = form_in config first.request place; share = kind }) (was ++ (map Made calls ++ Recorded (Tried trail) ∷ [])) outbox''
   past_ended {request} {outbox} {outbox'} {outbox''} {was} {key} {first} {kind} trail calls place (alone e keys none same) tried make replies =
@@ -137,17 +137,17 @@ module _ {config : Configuration} where
       let said = subst (λ (o : OneKey). Replies o.share (answer_of trail) outbox' kind outbox'') e replies in
       let is : IsKeyRouted config request (routed_key key trail) more =
       routed_by request key trail calls refl tried make (ap (λ (o : OneKey). o.request) e ∙ sym (request_for_alone request key keys)) in
-      complete (is_silent request) said.0 (record {
+      complete (asks_no_reply request) said.0 (record {
         routed = routed_key key trail ∷ [];
-        text = written request (reply_text trail);
+        text = reply_written request (trail_reply_text trail);
         answers = answers.by_keys (record {
           some = omega (arith, ap length keys);
           each = (more, [], is, refl, ap (λ xs. xs ++ more) none ∙ sym (append-nil more));
-          reply = reply_text trail;
-          is_reply = subst (λ ks. IsReply 1 ks (routed_key key trail ∷ []) (reply_text trail)) (sym keys) (one_reply key trail);
+          reply = trail_reply_text trail;
+          is_reply = subst (λ ks. IsReply 1 ks (routed_key key trail ∷ []) (trail_reply_text trail)) (sym keys) (one_reply key trail);
           is_written = refl;
         });
-        appended = said.1 ∙ ap (λ xs. xs ++ written request (reply_text trail)) same;
+        appended = said.1 ∙ ap (λ xs. xs ++ reply_written request (trail_reply_text trail)) same;
       })
   past_ended {request} {outbox} {outbox'} {outbox''} {was} {key} {first} {kind} trail calls place (among all left unique whole some e so_far) tried make replies =
       let more = map Made calls ++ Recorded (Tried trail) ∷ [] in
@@ -162,7 +162,7 @@ module _ {config : Configuration} where
 
   -- the reply is complete once no key is left
   pub past_over : {request : Request} {outbox outbox' outbox'' : List ℕ} {was : List Interaction} {one other : OneKey} → IsPast config request outbox one was outbox'
-      → Continues one outbox' false other outbox'' → IsAnswered config request outbox was outbox''
+      → ContinuesKeys one outbox' false other outbox'' → IsAnswered config request outbox was outbox''
   past_over {request} {outbox} {was = was} (complete silent kind done) (asked.complete silent' kind' over same) =
       subst (λ xs. IsAnswered config request outbox was xs) (sym same) done
   past_over (complete silent kind done) (asked.last begin kind' over same) = absurd (whole_or_joined (sym kind ∙ kind'))
@@ -177,7 +177,7 @@ module _ {config : Configuration} where
 
   -- the next of several keys is to be asked for
   pub past_next : {request : Request} {outbox outbox' outbox'' : List ℕ} {was : List Interaction} {one other : OneKey} → IsPast config request outbox one was outbox'
-      → Continues one outbox' true other outbox'' → (key : List ℕ) × IsAt config request outbox key other was outbox''
+      → ContinuesKeys one outbox' true other outbox'' → (key : List ℕ) × IsAt config request outbox key other was outbox''
   past_next past (asked.complete silent kind over same) = absurd (false_or_true (sym over))
   past_next past (asked.last begin kind over same) = absurd (false_or_true (sym over))
   past_next (complete silent kind done) (asked.next begin key left kind' on alike then same) = absurd (whole_or_joined (sym kind ∙ kind'))

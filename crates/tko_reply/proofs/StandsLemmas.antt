@@ -3,9 +3,9 @@ use Rattle.std.proofs.Common.{◌≡◌, ℕ, ◌<◌, Bool, List, [], ◌∷◌
 use Rattle.std.proofs.lemmas.List.Elements.{All-nil}
 use Rattle.tko_text.specs.declared.request.Request.{Request}
 use Rattle.tko_pools.specs.Configs.{Configuration, targets_of}
-use Rattle.tko_route.specs.Calls.{Call}
+use Rattle.tko_route.specs.Calls.{RoutedCall}
 use Rattle.tko_route.specs.Routing.{Reached}
-use Rattle.tko_route.specs.Trail.{IsTrail, Makes}
+use Rattle.tko_route.specs.Trail.{IsTrail, MakesTrail}
 use Rattle.tko_route.specs.declared.attempt.Attempt.{Attempt}
 use Rattle.tko_route.specs.declared.routing.Stage.{Stage}
 use Rattle.tko_route.specs.declared.routing.Stage.TheVariants as stage
@@ -13,11 +13,11 @@ use Rattle.tko_reply.specs.Answering.{Extends, retrieval}
 use Rattle.tko_reply.specs.Answers.{Answers, AreKeysRouted, form_in, request_keys}
 use Rattle.tko_reply.specs.Asking as asked
 use Rattle.tko_reply.specs.Interactions.{Interaction, Made, Recorded}
-use Rattle.tko_reply.specs.Replies.{HasValues, RoutedKey, joined, keys_in}
-use Rattle.tko_reply.specs.Standing.{Asking, asking, whole_of}
+use Rattle.tko_reply.specs.Replies.{HasValues, RoutedKey, joined_values, keys_in}
+use Rattle.tko_reply.specs.Standing.{SentKey, asking, whole_of}
 use Rattle.tko_reply.specs.TrailEvents as event
 use Rattle.tko_reply.specs.declared.asking.OneKey.{OneKey}
-use Rattle.tko_reply.specs.declared.asking.Share.TheVariants as share
+use Rattle.tko_reply.specs.declared.asking.ReplyPart.TheVariants as share
 use Rattle.tko_reply.proofs.AnsweringLemmas.{one_key, retrieval_keys}
 
 -- the request of one of several keys alone
@@ -32,7 +32,7 @@ pub record JoinsOn (config : Configuration) (request : Request) (all left : List
   pub are : all ≡ keys_in routed ++ left
   pub each : AreKeysRouted config request routed was
   pub values : All HasValues routed
-  pub appended : outbox' ≡ outbox ++ joined routed
+  pub appended : outbox' ≡ outbox ++ joined_values routed
 
 -- this key is the next one, after the values of those before it
 pub data IsAt (config : Configuration) (request : Request) (outbox : List ℕ) (key : List ℕ)
@@ -50,11 +50,11 @@ pub data IsAt (config : Configuration) (request : Request) (outbox : List ℕ) (
 
 -- a key's request may be sent
 pub record IsSending (config : Configuration) (request : Request) (outbox : List ℕ) (clear : ℕ)
-    (it : Asking) (targets : List ℕ) (was : List Interaction) (outbox' : List ℕ) : Type 0 where
+    (it : SentKey) (targets : List ℕ) (was : List Interaction) (outbox' : List ℕ) : Type 0 where
   pub key : List ℕ
   pub first : OneKey
   pub before : List Interaction
-  pub calls : List Call
+  pub calls : List RoutedCall
   pub at : IsAt config request outbox key first before outbox'
   pub aims : targets ≡ targets_of config key
   pub reached : Reached targets (form_in config first.request) calls (stage.Away clear it.waiting)
@@ -91,11 +91,11 @@ pub record IsTried (config : Configuration) (request : Request) (outbox : List �
   pub key : List ℕ
   pub first : OneKey
   pub before : List Interaction
-  pub calls : List Call
+  pub calls : List RoutedCall
   pub mid : List ℕ
   pub at : IsAt config request outbox key first before mid
   pub tried : IsTrail (targets_of config key) trail
-  pub make : Makes (form_in config first.request) calls trail
+  pub make : MakesTrail (form_in config first.request) calls trail
   pub are : was ≡ before ++ map Made calls
   pub past : IsPast config request outbox one (was ++ Recorded (event.Tried trail) ∷ []) outbox'
 
@@ -117,11 +117,11 @@ module _ {config : Configuration} {request : Request} {outbox outbox' : List ℕ
   -- the replies from before the request are still there
   pub at_extends : {key : List ℕ} {one : OneKey} → IsAt config request outbox key one was outbox' → Extends outbox outbox'
   at_extends (alone e keys none same) = record { more = []; is = same ∙ sym (append-nil outbox) }
-  at_extends (among all left unique is some e so_far) = record { more = joined so_far.routed; is = so_far.appended }
+  at_extends (among all left unique is some e so_far) = record { more = joined_values so_far.routed; is = so_far.appended }
 
   pub past_extends : {one : OneKey} → IsPast config request outbox one was outbox' → Extends outbox outbox'
   past_extends (complete silent is done) = record { more = done.text; is = done.appended }
-  past_extends (values_joined all left unique key is some e so_far) = record { more = joined so_far.routed; is = so_far.appended }
+  past_extends (values_joined all left unique key is some e so_far) = record { more = joined_values so_far.routed; is = so_far.appended }
 
 -- what a request begins with
 pub is_first : (config : Configuration) (outbox : List ℕ) (request : Request) (one : OneKey) → asked.IsFirst request (length outbox) one

@@ -9,13 +9,13 @@ use Rattle.tko_model.proofs.RecordLemmas.{gains_one, gains_append}
 use Rattle.tko_health.specs.Health.{look_item}
 use Rattle.tko_reply.specs.Answering.{Extends}
 use Rattle.tko_reply.specs.Cuts.{LooksSome}
-use Rattle.tko_reply.specs.Status.{IsStatusAfter, Looked, addresses_in, looks_from, mark_line, mark_of, status_line}
+use Rattle.tko_reply.specs.Status.{IsStatusAfter, LookedServer, addresses_in, looks_from, mark_line, mark_of, status_line}
 
 -- the first servers were looked up, and their lines were put at the end of a buffer
 pub record HasLines {H : Type 0} (steps : H → HealthItem → H → Type 0)
     (addresses : List (List ℕ)) (old : H) (out : List ℕ) (new : H) (out' : List ℕ)
     : Type 0 where
-  pub servers : List Looked
+  pub servers : List LookedServer
   pub all : addresses_in servers ≡ addresses
   pub looks : Gains steps old (looks_from 0 servers) new
   pub lines : out' ≡ out ++ flat_map status_line servers
@@ -39,7 +39,7 @@ taken-mapped f xs n within = sym (length-take-le n (map f xs) (omega (arith, wit
 pub taken-all : {A : Type 0} (f : A → List ℕ) (xs : List A) (n : ℕ) → length xs ≤ n → take n (map f xs) ≡ map f xs
 taken-all f xs n all = take_all n (map f xs) (omega (arith, all, length-map xs f))
 
-looks-last : (n : ℕ) (servers : List Looked) (last : Looked)
+looks-last : (n : ℕ) (servers : List LookedServer) (last : LookedServer)
     → looks_from n (servers ++ last ∷ []) ≡ looks_from n servers ++ look_item (n + length servers) last.found ∷ []
 looks-last n [] last = ap (λ m. look_item m last.found ∷ []) (sym (add-zero n))
 looks-last n (server ∷ servers) last =
@@ -54,7 +54,7 @@ module _ {H : Type 0} {steps : H → HealthItem → H → Type 0} where
       → out'' ≡ out' ++ mark_line address (mark_of found)
       → HasLines steps (addresses ++ address ∷ []) old out new out''
   lines_more {addresses} {old} {mid} {new} {out} {out'} {out''} address found number has is step line =
-      let last : Looked = record { address = address; found = found } in
+      let last : LookedServer = record { address = address; found = found } in
       let len : 0 + length has.servers ≡ number = omega (arith, length-map has.servers (λ server. server.address), ap length has.all, is) in
       record {
         servers = has.servers ++ last ∷ [];

@@ -5,11 +5,11 @@ use Rattle.tko_text.specs.declared.request.Request.{Request}
 use Rattle.tko_text.specs.declared.request.Request.TheVariants.{Get, Gets, Store, Cas, Delete, Incr, Decr, Touch, Version, Quit, StatsTko}
 use Rattle.tko_text.specs.SentRequests.{without_noreply}
 use Rattle.tko_pools.specs.Configs.{Configuration, targets_of}
-use Rattle.tko_route.specs.Calls.{Call}
-use Rattle.tko_route.specs.Trail.{IsTrail, Makes, form_at}
+use Rattle.tko_route.specs.Calls.{RoutedCall}
+use Rattle.tko_route.specs.Trail.{IsTrail, MakesTrail, form_at}
 use Rattle.tko_reply.specs.declared.parts.Parts.{Parts}
 use Rattle.tko_reply.specs.Interactions.{Interaction, Made, Recorded, health_calls}
-use Rattle.tko_reply.specs.Replies.{IsReply, RoutedKey, version_text, written}
+use Rattle.tko_reply.specs.Replies.{IsReply, RoutedKey, reply_written, version_text}
 use Rattle.tko_reply.specs.Status.{IsStatusText}
 use Rattle.tko_reply.specs.TrailEvents.{Tried}
 
@@ -63,8 +63,8 @@ AnswersItself addresses _ text looks = ⊥
 pub record IsKeyRouted (config : Configuration) (request : Request) (routed : RoutedKey)
     (done : List Interaction) : Type 0 where
   pub tried : IsTrail (targets_of config routed.key) routed.trail
-  pub calls : List Call
-  pub make : Makes (form_in config (request_for request routed.key)) calls routed.trail
+  pub calls : List RoutedCall
+  pub make : MakesTrail (form_in config (request_for request routed.key)) calls routed.trail
   pub are : done ≡ map Made calls ++ Recorded (Tried routed.trail) ∷ []
 
 -- keys of a request were routed, one after another
@@ -81,7 +81,7 @@ pub record AnswersByKeys (config : Configuration) (request : Request) (routed : 
   pub each : AreKeysRouted config request routed done
   pub reply : List ℕ
   pub is_reply : IsReply 1 (request_keys request) routed reply
-  pub is_written : text ≡ written request reply
+  pub is_written : text ≡ reply_written request reply
 
 -- what is done for a request once it was recorded: the keys that are routed for it, and the text
 -- that answers it

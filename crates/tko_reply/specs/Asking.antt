@@ -6,18 +6,18 @@ use Rattle.tko_model.specs.Records.{HealthItem}
 use Rattle.tko_text.specs.declared.request.Request.{Request}
 use Rattle.tko_text.specs.declared.response.Response.{Response}
 use Rattle.tko_pools.specs.Configs.{Configuration, targets_of}
-use Rattle.tko_route.specs.Calls.{Call, Told}
+use Rattle.tko_route.specs.Calls.{RoutedCall, Told}
 use Rattle.tko_route.specs.Routing.{Reached, last_place}
 use Rattle.tko_route.specs.Trail.{answer_of, form_at}
 use Rattle.tko_route.specs.declared.routing.Stage.{Stage}
 use Rattle.tko_route.specs.declared.routing.Stage.TheVariants as stage
 use Rattle.tko_reply.specs.Answering.{retrieval}
 use Rattle.tko_reply.specs.Answers.{AnswersItself, request_keys}
-use Rattle.tko_reply.specs.Replies.{end_line, text_of_answer, values_in}
+use Rattle.tko_reply.specs.Replies.{end_line, text_of_answer, values_text_in}
 use Rattle.tko_reply.specs.Standing.{whole_of}
 use Rattle.tko_reply.specs.declared.asking.OneKey.{OneKey}
-use Rattle.tko_reply.specs.declared.asking.Share.{Share}
-use Rattle.tko_reply.specs.declared.asking.Share.TheVariants as share
+use Rattle.tko_reply.specs.declared.asking.ReplyPart.{ReplyPart}
+use Rattle.tko_reply.specs.declared.asking.ReplyPart.TheVariants as share
 
 -- a request for one key goes to these targets
 abbrev pub GoesTo : Configuration → Request → List ℕ → Type 0
@@ -26,22 +26,22 @@ GoesTo config request targets =
 
 -- the replies that stay, whatever becomes of a key: all of them, or where several keys are asked
 -- for those from before the first
-abbrev pub front_of : Share → List ℕ → List ℕ
+abbrev pub front_of : ReplyPart → List ℕ → List ℕ
 front_of (share.Whole silent) outbox = outbox
 front_of (share.Joined begin left) outbox = take begin outbox
 
 -- this key is one of several
-abbrev pub IsJoined : Share → Type 0
+abbrev pub IsJoined : ReplyPart → Type 0
 IsJoined (share.Whole silent) = ⊥
 IsJoined (share.Joined begin left) = Unit {0}
 
 -- the replies from before the first of several keys are there
-abbrev pub HasFront : Share → List ℕ → Type 0
+abbrev pub HasFront : ReplyPart → List ℕ → Type 0
 HasFront (share.Whole silent) outbox = Unit {0}
 HasFront (share.Joined begin left) outbox = begin ≤ length outbox
 
 -- the reply that this key is a part of begins after so many bytes of the outbox
-abbrev pub BeginsAt : ℕ → Share → List ℕ → Type 0
+abbrev pub BeginsAt : ℕ → ReplyPart → List ℕ → Type 0
 BeginsAt begin (share.Whole silent) outbox = begin ≤ length outbox
 BeginsAt begin (share.Joined first left) outbox = (first ≡ begin) × (begin ≤ length outbox)
 
@@ -57,28 +57,28 @@ pub data IsFirst (request : Request) (waiting : ℕ) (one : OneKey) : Type 0 whe
 
 -- how the answer to a request begins by these calls: the proxy answers it itself; or its first key
 -- is to be asked for. Whether there is a key to ask for, the key, and the outbox then.
-pub data Begins (config : Configuration) (request : Request) (outbox : List ℕ)
-    (calls : List Call) (keyed : Bool) (one : OneKey) (outbox' : List ℕ) : Type 0 where
+pub data BeginsAnswer (config : Configuration) (request : Request) (outbox : List ℕ)
+    (calls : List RoutedCall) (keyed : Bool) (one : OneKey) (outbox' : List ℕ) : Type 0 where
   itself : (text : List ℕ) (looks : List HealthItem) → keyed ≡ false
       → AnswersItself config.addresses request text looks → calls ≡ map Told looks
-      → outbox' ≡ outbox ++ text → Begins config request outbox calls keyed one outbox'
+      → outbox' ≡ outbox ++ text → BeginsAnswer config request outbox calls keyed one outbox'
   by_key : keyed ≡ true → IsFirst request (length outbox) one → calls ≡ []
-      → outbox' ≡ outbox → Begins config request outbox calls keyed one outbox'
+      → outbox' ≡ outbox → BeginsAnswer config request outbox calls keyed one outbox'
 
 -- the response to one of several keys: its values follow those before; or, if it is no list of
 -- values, it takes their place and is all of the reply
 pub data Joins (begin : ℕ) (left : List (List ℕ)) (found : Option Response) (outbox : List ℕ)
-    (share' : Share) (outbox' : List ℕ) : Type 0 where
-  other : ¬ (IsSome (values_in found)) → share' ≡ share.Whole false
+    (share' : ReplyPart) (outbox' : List ℕ) : Type 0 where
+  other : ¬ (IsSome (values_text_in found)) → share' ≡ share.Whole false
       → outbox' ≡ take begin outbox ++ text_of_answer found
       → Joins begin left found outbox share' outbox'
-  values : IsSome (values_in found) → share' ≡ share.Joined begin left
-      → outbox' ≡ outbox ++ unwrap_or (values_in found) []
+  values : IsSome (values_text_in found) → share' ≡ share.Joined begin left
+      → outbox' ≡ outbox ++ unwrap_or (values_text_in found) []
       → Joins begin left found outbox share' outbox'
 
 -- what the response to a key is to the reply, which it had this share of, and has that share of
 -- once it is in the outbox
-abbrev pub Replies : Share → Option Response → List ℕ → Share → List ℕ → Type 0
+abbrev pub Replies : ReplyPart → Option Response → List ℕ → ReplyPart → List ℕ → Type 0
 Replies (share.Whole silent) found outbox share' outbox' = (share' ≡ share.Whole silent)
     × (outbox' ≡ outbox ++ (if silent then [] else text_of_answer found))
 Replies (share.Joined begin left) found outbox share' outbox' =
@@ -95,7 +95,7 @@ Settles (stage.Done trail) one outbox one' outbox' = (one'.request ≡ one.reque
 pub record Course : Type 0 where
   pub targets : List ℕ
   pub form : ℕ → Request
-  pub share : Share
+  pub share : ReplyPart
 
 -- the key where its routing came to this stage
 abbrev pub key_at_stage : Course → Stage → OneKey
@@ -111,7 +111,7 @@ course_of config targets one original = record {
 }
 
 -- by these calls the routing of a key came to a stage, and was settled: the key and the outbox then
-pub record Goes (course : Course) (calls : List Call) (outbox : List ℕ) (stage : Stage)
+pub record Goes (course : Course) (calls : List RoutedCall) (outbox : List ℕ) (stage : Stage)
     (one : OneKey) (outbox' : List ℕ) : Type 0 where
   pub reached : Reached course.targets course.form calls stage
   pub settles : Settles stage (key_at_stage course stage) outbox one outbox'
@@ -119,15 +119,15 @@ pub record Goes (course : Course) (calls : List Call) (outbox : List ℕ) (stage
 -- after a key its reply is complete; or it is one of several, and `END` follows the values of the
 -- last, or the next is asked for as this one was, and then come those that are left. Whether there
 -- is a key to ask for, the key, and the outbox then.
-pub data Continues (one : OneKey) (outbox : List ℕ) (keyed : Bool) (one' : OneKey)
+pub data ContinuesKeys (one : OneKey) (outbox : List ℕ) (keyed : Bool) (one' : OneKey)
     (outbox' : List ℕ) : Type 0 where
   complete : (silent : Bool) → one.share ≡ share.Whole silent → keyed ≡ false
-      → outbox' ≡ outbox → Continues one outbox keyed one' outbox'
+      → outbox' ≡ outbox → ContinuesKeys one outbox keyed one' outbox'
   last : (begin : ℕ) → one.share ≡ share.Joined begin [] → keyed ≡ false
-      → outbox' ≡ outbox ++ end_line → Continues one outbox keyed one' outbox'
+      → outbox' ≡ outbox ++ end_line → ContinuesKeys one outbox keyed one' outbox'
   next : (begin : ℕ) (key : List ℕ) (left : List (List ℕ))
       → one.share ≡ share.Joined begin (key ∷ left) → keyed ≡ true
       → ((keys : List (List ℕ)) (unique : Bool) → one.request ≡ retrieval keys unique
       → one'.request ≡ retrieval (key ∷ []) unique)
       → one'.share ≡ share.Joined begin left → outbox' ≡ outbox
-      → Continues one outbox keyed one' outbox'
+      → ContinuesKeys one outbox keyed one' outbox'

@@ -10,11 +10,11 @@ use Rattle.tko_route.specs.declared.attempt.Attempt.TheVariants as attempt
 use Rattle.tko_reply.specs.TrailEvents.{TrailEvent, Asked, Tried}
 
 -- the request was sent
-abbrev pub is_sent : Attempt → Bool
-is_sent (attempt.Skipped server mark) = false
-is_sent (attempt.Sent server came answer) = true
-is_sent (attempt.Aborted server) = true
-is_sent (attempt.Spent server) = false
+abbrev pub is_sent_attempt : Attempt → Bool
+is_sent_attempt (attempt.Skipped server mark) = false
+is_sent_attempt (attempt.Sent server came answer) = true
+is_sent_attempt (attempt.Aborted server) = true
+is_sent_attempt (attempt.Spent server) = false
 
 -- the server was passed over because of its mark
 abbrev pub is_skipped : Attempt → Bool
@@ -47,7 +47,7 @@ is_unanswered trail = count_by is_replied trail == 0
 abbrev pub counted : Counts → TrailEvent → Counts
 counted old (Asked request) = saturated kind.Request 1 old
 counted old (Tried trail) =
-    let sent = saturated kind.Attempt (count_by is_sent trail) old in
+    let sent = saturated kind.Attempt (count_by is_sent_attempt trail) old in
     let skipped = saturated kind.Skip (count_by is_skipped trail) sent in
     let replied = saturated kind.Reply (count_by is_replied trail) skipped in
     saturated kind.NoServer (if is_unanswered trail then 1 else 0) replied

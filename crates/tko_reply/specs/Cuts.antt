@@ -4,38 +4,39 @@ use Rattle.tko_model.specs.Records.{HealthItem, Gains}
 use Rattle.tko_text.specs.declared.request.Request.{Request}
 use Rattle.tko_text.specs.declared.request.Request.TheVariants.{StatsTko}
 use Rattle.tko_pools.specs.Configs.{Configuration, targets_of}
-use Rattle.tko_route.specs.Calls.{Call, Told, came}
+use Rattle.tko_route.specs.Calls.{RoutedCall, Told, came}
 use Rattle.tko_route.specs.Routing.{FindsUp}
-use Rattle.tko_route.specs.Trail.{IsCutTrail, IsTrail, Makes, next_target}
+use Rattle.tko_route.specs.Trail.{IsCutTrail, IsTrail, MakesTrail, next_target}
 use Rattle.tko_route.specs.declared.attempt.Attempt.{Attempt}
 use Rattle.tko_route.specs.declared.routing.Stage.{Stage}
 use Rattle.tko_route.specs.declared.routing.Stage.TheVariants as stage
 use Rattle.tko_reply.specs.Answers.{AreKeysRouted, form_in, request_for, request_keys}
 use Rattle.tko_reply.specs.Interactions.{Interaction, Made, Noted, health_calls}
 use Rattle.tko_reply.specs.Replies.{HasValues, RoutedKey, keys_in}
-use Rattle.tko_reply.specs.Status.{Looked, addresses_in, looks_from}
+use Rattle.tko_reply.specs.Status.{LookedServer, addresses_in, looks_from}
 
 -- the first servers were looked up once each, in number order, and no other
 pub record LooksSome {H : Type 0} (steps : H → HealthItem → H → Type 0)
     (addresses : List (List ℕ)) (old new : H) : Type 0 where
-  pub servers : List Looked
+  pub servers : List LookedServer
   pub unlooked : List (List ℕ)
   pub parts : addresses ≡ addresses_in servers ++ unlooked
   pub looks : Gains steps old (looks_from 0 servers) new
 
 -- memory ran out where a request began, after these calls: nothing was asked; or the first servers
 -- were looked up for their status
-pub data IsBeginCut (config : Configuration) (request : Request) (calls : List Call) : Type 0 where
+pub data IsBeginCut (config : Configuration) (request : Request) (calls : List RoutedCall)
+    : Type 0 where
   nothing : calls ≡ [] → IsBeginCut config request calls
-  in_status : (servers : List Looked) (unlooked : List (List ℕ)) → request ≡ StatsTko
+  in_status : (servers : List LookedServer) (unlooked : List (List ℕ)) → request ≡ StatsTko
       → config.addresses ≡ addresses_in servers ++ unlooked
       → calls ≡ map Told (looks_from 0 servers) → IsBeginCut config request calls
 
 -- these calls ended the routing of a key over these targets with this trail
-pub record EndsBy (targets : List ℕ) (form : ℕ → Request) (calls : List Call)
+pub record EndsBy (targets : List ℕ) (form : ℕ → Request) (calls : List RoutedCall)
     (trail : List Attempt) : Type 0 where
   pub tried : IsTrail targets trail
-  pub make : Makes form calls trail
+  pub make : MakesTrail form calls trail
 
 -- the trail with which a routing ended
 abbrev pub IsEndOf : Stage → List Attempt → Type 0
@@ -44,7 +45,7 @@ IsEndOf (stage.Done tried) trail = trail ≡ tried
 
 -- memory ran out where the request of a key began, after these calls and attempts: none; or all
 -- that there are, so that the reply is lost
-pub data KeyLost (config : Configuration) (request : Request) (calls : List Call)
+pub data KeyLost (config : Configuration) (request : Request) (calls : List RoutedCall)
     (trail : List Attempt) : Type 0 where
   untried : calls ≡ [] → trail ≡ [] → KeyLost config request calls trail
   tried : ((key : List ℕ) → request_keys request ≡ key ∷ []
@@ -55,11 +56,12 @@ pub data KeyLost (config : Configuration) (request : Request) (calls : List Call
 -- noted; or at the send to the next target, after attempts at the first ones, none of them answered
 pub data IsKeyCut (config : Configuration) (request : Request) (key : List ℕ)
     (done : List Interaction) : Type 0 where
-  reply_lost : (trail : List Attempt) (calls : List Call) → IsTrail (targets_of config key) trail
-      → Makes (form_in config (request_for request key)) calls trail
+  reply_lost : (trail : List Attempt) (calls : List RoutedCall)
+      → IsTrail (targets_of config key) trail
+      → MakesTrail (form_in config (request_for request key)) calls trail
       → done ≡ map Made calls ++ Noted trail ∷ []
       → IsKeyCut config request key done
-  send_lost : (trail : List Attempt) (calls : List Call) (server : ℕ) (was_sent : Bool)
+  send_lost : (trail : List Attempt) (calls : List RoutedCall) (server : ℕ) (was_sent : Bool)
       → IsCutTrail (targets_of config key) trail
       → server ≡ next_target (targets_of config key) trail
       → FindsUp (form_in config (request_for request key)) calls trail server
@@ -83,6 +85,6 @@ pub data IsAnswerCut (config : Configuration) (request : Request) (done : List I
       → request_keys request ≡ keys_in routed ++ left → AreKeysRouted config request routed front
       → All HasValues routed → IsFirstCut config request left last → done ≡ front ++ last
       → IsAnswerCut config request done
-  in_status : (servers : List Looked) (unlooked : List (List ℕ)) → request ≡ StatsTko
+  in_status : (servers : List LookedServer) (unlooked : List (List ℕ)) → request ≡ StatsTko
       → config.addresses ≡ addresses_in servers ++ unlooked
       → done ≡ health_calls (looks_from 0 servers) → IsAnswerCut config request done

@@ -2,7 +2,7 @@
 use Rattle.std.specs.Prelude.{◌≡◌, ◌+◌, ℕ, List, [], ◌∷◌, map, sum_by}
 use Rattle.tko_model.specs.Records.{Gains, HealthItem}
 use Rattle.tko_pools.specs.Configs.{Configuration}
-use Rattle.tko_route.specs.Calls.{Call, Came, IsExchange, Told, sends_of}
+use Rattle.tko_route.specs.Calls.{Came, IsExchange, RoutedCall, Told, sends_of}
 use Rattle.tko_route.specs.declared.attempt.Attempt.{Attempt}
 use Rattle.tko_prober.specs.Probers.{noted}
 use Rattle.tko_reply.specs.Ghosts.{PartsGhosts, upstream_of}
@@ -12,7 +12,7 @@ use Rattle.tko_reply.specs.declared.parts.Parts.{Parts}
 -- health was told or asked something, or this came of an exchange; a request or the trail of a key
 -- was recorded, the marks of its attempts with it; or only the marks of these attempts were noted
 pub data Interaction : Type 0 where
-  Made : (call : Call) → Interaction
+  Made : (call : RoutedCall) → Interaction
   Recorded : (event : TrailEvent) → Interaction
   Noted : (trail : List Attempt) → Interaction
 

@@ -4,7 +4,7 @@ use Rattle.tko_text.specs.declared.request.Request.{Request}
 use Rattle.tko_text.specs.declared.response.Response.{Response}
 use Rattle.tko_text.specs.declared.response.Response.TheVariants.{Values}
 use Rattle.tko_text.specs.Responses.{response_text, value_text}
-use Rattle.tko_text.specs.SentRequests.{is_silent}
+use Rattle.tko_text.specs.SentRequests.{asks_no_reply}
 use Rattle.tko_route.specs.declared.attempt.Attempt.{Attempt}
 use Rattle.tko_route.specs.Trail.{answer_of, sends_in}
 
@@ -23,14 +23,14 @@ text_of_answer (Some response) = response_text response
 text_of_answer None = no_server
 
 -- the reply after a trail: the response of its last attempt, or that no server answered
-abbrev pub reply_text : List Attempt → List ℕ
-reply_text trail = text_of_answer (answer_of trail)
+abbrev pub trail_reply_text : List Attempt → List ℕ
+trail_reply_text trail = text_of_answer (answer_of trail)
 
 -- the text of the values in a response that is a list of values
-abbrev pub values_in : Option Response → Option (List ℕ)
-values_in (Some (Values None)) = Some []
-values_in (Some (Values (Some found))) = Some (value_text found)
-values_in _ = None
+abbrev pub values_text_in : Option Response → Option (List ℕ)
+values_text_in (Some (Values None)) = Some []
+values_text_in (Some (Values (Some found))) = Some (value_text found)
+values_text_in _ = None
 
 -- a key that was routed, and its trail
 pub record RoutedKey : Type 0 where
@@ -52,11 +52,11 @@ sends_to server trails = sum_by (sends_in server) trails
 
 -- the response to a key is a list of values
 abbrev pub HasValues : RoutedKey → Type 0
-HasValues one = IsSome (values_in (answer_of one.trail))
+HasValues one = IsSome (values_text_in (answer_of one.trail))
 
 -- the values of these keys, one after another
-abbrev pub joined : List RoutedKey → List ℕ
-joined routed = flat_map (λ one. unwrap_or (values_in (answer_of one.trail)) []) routed
+abbrev pub joined_values : List RoutedKey → List ℕ
+joined_values routed = flat_map (λ one. unwrap_or (values_text_in (answer_of one.trail)) []) routed
 
 -- The reply to a request for these keys, of which these were routed, in order: all values and then
 -- `END`; or the whole reply to the first key whose response is no list of values. Fewer than `most`
@@ -64,27 +64,27 @@ joined routed = flat_map (λ one. unwrap_or (values_in (answer_of one.trail)) []
 -- begun before its response came.
 pub data IsReply (most : ℕ) (keys : List (List ℕ)) (routed : List RoutedKey) (reply : List ℕ)
     : Type 0 where
-  all_values : keys ≡ keys_in routed → All HasValues routed → reply ≡ joined routed ++ end_line
-      → IsReply most keys routed reply
+  all_values : keys ≡ keys_in routed → All HasValues routed
+      → reply ≡ joined_values routed ++ end_line → IsReply most keys routed reply
   first_other : (before : List RoutedKey) (last : RoutedKey) (ahead : List RoutedKey)
       (unrouted : List (List ℕ)) → routed ≡ before ++ last ∷ ahead → length ahead < most
       → keys ≡ keys_in routed ++ unrouted → All HasValues before → ¬ (HasValues last)
-      → reply ≡ reply_text last.trail → IsReply most keys routed reply
+      → reply ≡ trail_reply_text last.trail → IsReply most keys routed reply
 
 -- the same where one key is routed after another: none is behind the first whose response is no
 -- list of values
 pub data IsReplyInTurn (keys : List (List ℕ)) (routed : List RoutedKey) (reply : List ℕ)
     : Type 0 where
-  only_values : keys ≡ keys_in routed → All HasValues routed → reply ≡ joined routed ++ end_line
-      → IsReplyInTurn keys routed reply
+  only_values : keys ≡ keys_in routed → All HasValues routed
+      → reply ≡ joined_values routed ++ end_line → IsReplyInTurn keys routed reply
   last_other : (before : List RoutedKey) (last : RoutedKey) (unrouted : List (List ℕ))
       → routed ≡ before ++ last ∷ [] → keys ≡ keys_in routed ++ unrouted
-      → All HasValues before → ¬ (HasValues last) → reply ≡ reply_text last.trail
+      → All HasValues before → ¬ (HasValues last) → reply ≡ trail_reply_text last.trail
       → IsReplyInTurn keys routed reply
 
 -- what the client gets of a reply: nothing where it asked for none
-abbrev pub written : Request → List ℕ → List ℕ
-written request reply = if is_silent request then [] else reply
+abbrev pub reply_written : Request → List ℕ → List ℕ
+reply_written request reply = if asks_no_reply request then [] else reply
 
 -- the number of bytes of replies that is enough to be written
 abbrev pub reply_bound : ℕ

@@ -9,7 +9,7 @@ use Rattle.tko_model.specs.Texts.{mark_text}
 use Rattle.tko_health.specs.Health.{look_item}
 
 -- the address of a server, and what its look-up found
-pub record Looked : Type 0 where
+pub record LookedServer : Type 0 where
   pub address : List ℕ
   pub found : Look
 
@@ -23,14 +23,14 @@ abbrev pub mark_line : List ℕ → Mark → List ℕ
 mark_line address found =
     codes "STAT " ++ address ++ codes " " ++ mark_text found ++ codes "\r\n"
 
-abbrev pub status_line : Looked → List ℕ
+abbrev pub status_line : LookedServer → List ℕ
 status_line server = mark_line server.address (mark_of server.found)
 
-abbrev pub addresses_in : List Looked → List (List ℕ)
+abbrev pub addresses_in : List LookedServer → List (List ℕ)
 addresses_in servers = map (λ server. server.address) servers
 
 -- the look-ups of servers, which are numbered from this number on
-abbrev pub looks_from : ℕ → List Looked → List HealthItem
+abbrev pub looks_from : ℕ → List LookedServer → List HealthItem
 looks_from number [] = []
 looks_from number (server ∷ servers) =
     look_item number server.found ∷ looks_from (number + 1) servers
@@ -38,7 +38,7 @@ looks_from number (server ∷ servers) =
 -- each server was looked up once, in number order, and the text has the line of each and `END`
 pub record IsStatusText (addresses : List (List ℕ)) (text : List ℕ) (looks : List HealthItem)
     : Type 0 where
-  pub servers : List Looked
+  pub servers : List LookedServer
   pub all : addresses_in servers ≡ addresses
   pub are : looks ≡ looks_from 0 servers
   pub lines : text ≡ flat_map status_line servers ++ codes "END\r\n"

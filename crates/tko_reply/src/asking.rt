@@ -2,7 +2,7 @@
 //! request, values that are joined, a silent request and the status are its states.
 ghost use Rattle.std.specs.Prelude.{◌≡◌, IfErr, IfOk, OnErr, OnOk, length};
 ghost use Rattle.tko_reply.specs.Answering.{Extends};
-ghost use Rattle.tko_reply.specs.Asking.{Begins, Continues, Goes, GoesTo, HasFront, IsJoined, Settles, course_of, front_of};
+ghost use Rattle.tko_reply.specs.Asking.{BeginsAnswer, ContinuesKeys, Goes, GoesTo, HasFront, IsJoined, Settles, course_of, front_of};
 ghost use Rattle.tko_reply.specs.Cuts.{EndsBy, IsBeginCut, IsEndOf, KeyLost};
 ghost use Rattle.tko_reply.specs.Sends.{AfterSend, IsOutTo};
 ghost use Rattle.tko_reply.specs.Standing.{asking, is_joined, one_of, whole_of};
@@ -40,12 +40,12 @@ const VERSION: &[u8] = b"VERSION tkoproxy 1\r\n";
 #[derive(Drop)]
 pub struct OneKey {
     request: Request,
-    share: Share,
+    share: ReplyPart,
 }
 
 /// What the response to a key is to the reply.
 #[derive(Drop)]
-pub(crate) enum Share {
+pub(crate) enum ReplyPart {
     /// All of it, and it is written unless the request is silent.
     Whole(bool),
     /// The values of one of several keys. The reply begins after so many bytes of the outbox, and
@@ -59,25 +59,25 @@ impl OneKey {
         ensures { result ≡ whole_of request }
     {
         let silent = request.is_silent();
-        let share = Share::Whole(silent);
+        let share = ReplyPart::Whole(silent);
         OneKey { request, share }
     }
 
-    /// A request for one of several keys, whose response is put into an outbox of its own: its values
-    /// without the line `END`, or the whole text where it is no list of values.
+    /// A request for one of several keys, whose response is put into an outbox of its own: its
+    /// values without the line `END`, or the whole text where it is no list of values.
     pub fn one_of(alloc: Global, request: Request) -> OneKey
         ensures { result ≡ one_of request }
     {
-        let share = Share::Joined(0, KeysLeft::none(alloc));
+        let share = ReplyPart::Joined(0, KeysLeft::none(alloc));
         OneKey { request, share }
     }
 
-    /// Whether its response is one of those that are joined. Of an ended key of several: whether the
-    /// response was a list of values.
+    /// Whether its response is one of those that are joined. Of an ended key of several: whether
+    /// the response was a list of values.
     pub fn is_listed(&self) -> bool
         ensures { result ≡ is_joined self.now.share }
     {
-        matches!(self.share, Share::Joined(_, _))
+        matches!(self.share, ReplyPart::Joined(_, _))
     }
 
     /// The request in the form in which the server gets it; until `first`, as it was read.
@@ -100,7 +100,7 @@ impl OneKey {
         requires servers { H.servers health.old ≡ length config.now.addresses }
         requires whole { self.old ≡ whole_of self.old.request }
         ensures ok { IfOk result (λ keyed. GoesOn H.steps health.old
-            (λ calls. Begins config.now self.old.request outbox.old calls
+            (λ calls. BeginsAnswer config.now self.old.request outbox.old calls
             keyed self.new outbox.new) health.new) }
         ensures err { OnErr result (Extends outbox.old outbox.new) }
         ensures cut { OnErr result (GoesOn H.steps health.old
@@ -204,14 +204,14 @@ impl OneKey {
     /// Goes on once the attempts at a key ended: the next of several keys takes its place, or the
     /// reply ends. Returns whether there is a key to ask for.
     pub fn go_on(&mut self, outbox: &mut Outbox) -> Result<bool, NoMemory>
-        ensures ok { IfOk result (λ keyed. Continues self.old outbox.old
+        ensures ok { IfOk result (λ keyed. ContinuesKeys self.old outbox.old
             keyed self.new outbox.new) }
         ensures joined { OnErr result (IsJoined self.old.share) }
         ensures err { OnErr result (outbox.new ≡ outbox.old) }
     {
         match &mut self.share {
-            Share::Whole(_) => Ok(false),
-            Share::Joined(_, left) => join_next(outbox, &mut self.request, left),
+            ReplyPart::Whole(_) => Ok(false),
+            ReplyPart::Joined(_, left) => join_next(outbox, &mut self.request, left),
         }
     }
 }

@@ -1,6 +1,6 @@
 //! How many requests there were, and what became of them.
 ghost use Rattle.std.specs.Prelude.{◌≡◌, IsOk, count_by};
-ghost use Rattle.tko_reply.specs.Counting.{counted, is_replied, is_sent, is_skipped};
+ghost use Rattle.tko_reply.specs.Counting.{counted, is_replied, is_sent_attempt, is_skipped};
 ghost use Rattle.tko_reply.specs.TrailEvents.{Asked, Tried};
 
 use crate::Trails;
@@ -40,7 +40,7 @@ impl Trails for Counts {
 }
 
 fn sends_in(attempts: &[Attempt]) -> u64
-    ensures { result ≡ count_by is_sent attempts.now }
+    ensures { result ≡ count_by is_sent_attempt attempts.now }
 {
     attempts.iter().filter(|it| is_sent(it)).count() as u64
 }
@@ -58,7 +58,7 @@ fn replies_in(attempts: &[Attempt]) -> u64
 }
 
 fn is_sent(attempt: &Attempt) -> bool
-    ensures { result ≡ is_sent attempt.now }
+    ensures { result ≡ is_sent_attempt attempt.now }
 {
     matches!(attempt, Attempt::Sent(_, _, _) | Attempt::Aborted(_))
 }

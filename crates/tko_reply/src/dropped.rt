@@ -50,7 +50,7 @@ impl From<NoMemory> for Dropped {
 }
 
 /// Drops a request where memory ran out at its send.
-pub fn stop(waiting: Waiting, fault: tko_links::NoMemory) -> Dropped
+pub fn stop(waiting: Waiting, fault: tko_links::ExchangeNoMemory) -> Dropped
     ensures { result ≡ waiting.attempts }
 {
     Dropped::after(waiting.stop(fault).trail)

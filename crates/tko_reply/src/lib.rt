@@ -5,9 +5,9 @@
 //!   the key came, the `Stage` of its routing. Where memory runs out they return the `Dropped`
 //!   attempts; `stop` does where it runs out at a send. The reply is put at the end of an `Outbox`,
 //!   the replies that wait to be written.
-//! - `KeysLeft`: the keys of a request that are still to be asked for; `split_keys` takes them out of
-//!   a request that `has_several`. `OneKey::one_of` is a request for one of them, whose response is
-//!   kept apart from those of the others. `in_turn`: what a reply is where at most one key of a
+//! - `KeysLeft`: the keys of a request that are still to be asked for; `split_keys` takes them out
+//!   of a request that `has_several`. `OneKey::one_of` is a request for one of them, whose response
+//!   is kept apart from those of the others. `in_turn`: what a reply is where at most one key of a
 //!   request is under way.
 //! - `Parts`: what a session is served over: the `Backend` of the worker, the configuration, and
 //!   `Trails`, which records each request and each trail. `Kept` keeps the trails, and `Counts`

@@ -1,7 +1,7 @@
 //! The clients of a worker by number: their sessions, and what these share.
 //!
 //! - `Driven`: a session as its roster sees it; `Roster`: the sessions by number, over the parts
-//!   that they share; `Visit`: what is done with these between two calls.
+//!   that they share; `PartsVisit`: what is done with these between two calls.
 #![tactic(auto)]
 
 mod driven;
@@ -12,7 +12,7 @@ mod visit;
 pub use driven::Driven;
 pub use law::own_acts;
 pub use roster::Roster;
-pub use visit::Visit;
+pub use visit::PartsVisit;
 
 #[cfg(test)]
 mod tests;

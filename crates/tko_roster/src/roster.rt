@@ -3,7 +3,7 @@ ghost use Rattle.std.specs.Prelude.{◌≡◌, ◌<◌, ℕ, [], None, Some, IfN
 ghost use Rattle.std.specs.Bool.{OnFalse, OnTrue};
 ghost use Rattle.tko_roster.specs.Rosters.{AreReady, IfHas, IsActed, IsAdmitted, IsNobody, IsReleased, IsSlotCall, nobody, session_at};
 
-use crate::{Driven, Visit};
+use crate::{Driven, PartsVisit};
 use std::alloc::Global;
 use std::marker::Model;
 use tko_bytes::NoMemory;
@@ -134,7 +134,7 @@ impl<P, S: Driven<P> + Drop> Roster<S, P> {
     }
 
     /// Does something with the parts, which leaves all sessions ready.
-    pub fn visit<V: Visit<P>>(&mut self, visit: V) -> V::Output
+    pub fn visit<V: PartsVisit<P>>(&mut self, visit: V) -> V::Output
         requires stays { (old new : P) → V.stays old new → S.stays old new }
         requires ready { AreReady S.ready self.old }
         ensures does { V.does visit self.old.parts result self.new.parts }

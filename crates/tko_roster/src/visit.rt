@@ -1,7 +1,7 @@
 //! What is done with the parts that sessions share, between two calls of sessions.
 
 /// Something that is done once with the shared parts, while no session is called.
-pub trait Visit<P> {
+pub trait PartsVisit<P> {
     type Output;
 
     /// What this visit does to the parts, and what it returns.

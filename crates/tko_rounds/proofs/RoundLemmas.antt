@@ -14,7 +14,7 @@ use Rattle.tko_prober.specs.declared.probers.ProbeSlot.{ProbeSlot}
 use Rattle.tko_prober.specs.Probers.{ProbersState, begun_at}
 use Rattle.tko_prober.proofs.ProberLemmas.{begun-quiet, prober-quiet}
 use Rattle.tko_rounds.specs.Probes.{count_of}
-use Rattle.tko_rounds.specs.Rounds.{AreVisited, HasNext, HasTaken, IsIdle, IsNext, IsRound, IsVisit, IsVisited, Lost, Next, NothingCame, Passed, Pushed, RoundState, Taking, Takes, Underway, Visit, awaited, begun, ended_in, ran_out, servers_of, took, unsent, visited}
+use Rattle.tko_rounds.specs.Rounds.{AreEventVisited, HasNext, HasProbeTaken, HasNoProbes, IsProbeNext, IsEventRound, IsEventVisit, IsEventVisited, Lost, ProbeNext, NothingCame, Passed, Pushed, RoundState, ProbeTaking, TakesProbe, Underway, EventVisit, awaited, begun_round, probes_ended_in, event_ran_out, round_servers, took, unsent, event_visited}
 use Rattle.tko_rounds.proofs.ProbeLemmas.{each_unset}
 
 numbers_below-more : (count : ℕ) → numbers_below (count + 1) ≡ numbers_below count ++ count ∷ []
@@ -29,8 +29,8 @@ or-false false = refl
 module _ {H L C : Type 0} {health : HealthGhosts H} where
   -- what came of the probe of a server was taken, and then the next one was sent
   pub visited_both : {moment due : ℕ} {old mid new : RoundState H L C} {server : ℕ} {short : Bool}
-      → HasTaken health moment old server mid → HasNext health moment due mid server short new
-      → IsVisited health moment due old server short new
+      → HasProbeTaken health moment old server mid → HasNext health moment due mid server short new
+      → IsEventVisited health moment due old server short new
   visited_both {mid} {server} taken then = record {
     visit = record { server = server; taken = taken.it; next = then.it };
     at = refl;
@@ -38,19 +38,19 @@ module _ {H L C : Type 0} {health : HealthGhosts H} where
     memory = then.memory;
   }
 
-  pub visited_none : (moment due : ℕ) (at : RoundState H L C) → AreVisited health moment due at 0 false at
+  pub visited_none : (moment due : ℕ) (at : RoundState H L C) → AreEventVisited health moment due at 0 false at
   visited_none moment due at = record { visits = []; each = gains_none at; servers = refl; memory = refl }
 
   pub visited_more : {moment due : ℕ} {old mid new : RoundState H L C} {count : ℕ} {short next : Bool}
-      → AreVisited health moment due old count short mid → IsVisited health moment due mid count next new
-      → AreVisited health moment due old (count + 1) (short || next) new
+      → AreEventVisited health moment due old count short mid → IsEventVisited health moment due mid count next new
+      → AreEventVisited health moment due old (count + 1) (short || next) new
   visited_more {count} front last = record {
     visits = front.visits ++ last.visit ∷ [];
     each = gains_push front.each last.is;
     servers =
-        map-append visited front.visits (last.visit ∷ []) ∙ rw (front.servers, last.at, numbers_below-more count) refl;
+        map-append event_visited front.visits (last.visit ∷ []) ∙ rw (front.servers, last.at, numbers_below-more count) refl;
     memory =
-        rw (list_any-append ran_out front.visits (last.visit ∷ []), front.memory, last.memory, or-false (ran_out last.visit))
+        rw (list_any-append event_ran_out front.visits (last.visit ∷ []), front.memory, last.memory, or-false (event_ran_out last.visit))
         refl;
   }
 
@@ -61,24 +61,24 @@ module _ {H L C : Type 0} (health : HealthGhosts H) where
   nothing_counts old server new (unsent none same) at = ap (λ (s : RoundState H L C). count_of s.probes at) same
   nothing_counts old server new (awaited out is) at = ap (λ (s : RoundState H L C). count_of s.probes at) is.others
 
-  takes_counts : (moment : ℕ) (old : RoundState H L C) (server : ℕ) (it : Option Taking) (new : RoundState H L C)
-      → Takes health moment old server it new → (at : ℕ)
+  takes_counts : (moment : ℕ) (old : RoundState H L C) (server : ℕ) (it : Option ProbeTaking) (new : RoundState H L C)
+      → TakesProbe health moment old server it new → (at : ℕ)
       → count_of new.probes at ≡ count_of old.probes at + cond (took at server it) 1 0
   takes_counts moment old server None new is at = omega (arith, nothing_counts old server new is at)
   takes_counts moment old server (Some it) new (out, is) at = is.counted at
 
   -- a probe that is sent is not counted yet
-  sends_counts : (moment due : ℕ) (old : RoundState H L C) (server : ℕ) (next : Next) (new : RoundState H L C)
-      → IsNext health moment due old server next new → (at : ℕ) → count_of new.probes at ≡ count_of old.probes at
+  sends_counts : (moment due : ℕ) (old : RoundState H L C) (server : ℕ) (next : ProbeNext) (new : RoundState H L C)
+      → IsProbeNext health moment due old server next new → (at : ℕ) → count_of new.probes at ≡ count_of old.probes at
   sends_counts moment due old server Underway new (out, same) at = ap (λ (s : RoundState H L C). count_of s.probes at) same
   sends_counts moment due old server Passed new (free, passed, same) at = ap (λ (s : RoundState H L C). count_of s.probes at) same
   sends_counts moment due old server Pushed new is at = ap (λ (s : RoundState H L C). count_of s.probes at) is.others
   sends_counts moment due old server Lost new is at = ap (λ (s : RoundState H L C). count_of s.probes at) is.others
 
   -- the counts rise by the probes that ended in the visits
-  counts_gained : (moment due : ℕ) (old new : RoundState H L C) (visits : List Visit)
-      → Lead (IsVisit health moment due) old visits new → (at : ℕ)
-      → count_of new.probes at ≡ count_of old.probes at + ended_in at visits
+  counts_gained : (moment due : ℕ) (old new : RoundState H L C) (visits : List EventVisit)
+      → Lead (IsEventVisit health moment due) old visits new → (at : ℕ)
+      → count_of new.probes at ≡ count_of old.probes at + probes_ended_in at visits
   counts_gained moment due old new [] same at = omega (arith, ap (λ (s : RoundState H L C). count_of s.probes at) same)
   counts_gained moment due old new (visit ∷ visits) (mid, step, rest) at =
       omega (
@@ -86,42 +86,42 @@ module _ {H L C : Type 0} (health : HealthGhosts H) where
         takes_counts moment old visit.server visit.taken step.mid step.takes at,
         sends_counts moment due step.mid visit.server visit.next mid step.sends at,
         counts_gained moment due mid new visits rest at,
-        sum_by-cons (λ (x : Visit). cond {A = ℕ} (took at x.server x.taken) 1 0) visit visits,
+        sum_by-cons (λ (x : EventVisit). cond {A = ℕ} (took at x.server x.taken) 1 0) visit visits,
       )
 
   -- the probers began, and all servers were visited
   pub round_of : (moment due : ℕ) (old : RoundState H L C) (short : Bool) (new : RoundState H L C)
-      → AreVisited health moment due (begun moment old) (servers_of health old) short new
-      → IsRound health moment due old short new
+      → AreEventVisited health moment due (begun_round moment old) (round_servers health old) short new
+      → IsEventRound health moment due old short new
   round_of moment due old short new all = record {
     visits = all.visits;
     each = all.each;
     servers = all.servers;
-    counts = counts_gained moment due (begun moment old) new all.visits all.each.leads;
+    counts = counts_gained moment due (begun_round moment old) new all.visits all.each.leads;
     memory = all.memory;
   }
 
   pub round_begun : (moment due : ℕ) (old : RoundState H L C) (limit : ℕ) (backend : Backend H L C) (lines : List LineState)
       (short : Bool) (new : RoundState H L C) → limit ≡ old.limit → lines ≡ old.lines
       → backend ≡ record old.backend { probers = begun_at moment old.backend.probers }
-      → AreVisited health moment due (record old { limit = limit; backend = backend; lines = lines })
-      (servers_of health (record old { limit = limit; backend = backend; lines = lines })) short new
-      → IsRound health moment due old short new
+      → AreEventVisited health moment due (record old { limit = limit; backend = backend; lines = lines })
+      (round_servers health (record old { limit = limit; backend = backend; lines = lines })) short new
+      → IsEventRound health moment due old short new
   round_begun moment due old limit backend lines short new is_limit is_lines is_backend all =
-      let is : record old { limit = limit; backend = backend; lines = lines } ≡ begun moment old =
+      let is : record old { limit = limit; backend = backend; lines = lines } ≡ begun_round moment old =
       rw (is_limit, is_lines, is_backend) refl in
       round_of moment due old short new
-      (subst (λ (s : RoundState H L C). AreVisited health moment due s (servers_of health s) short new) is all)
+      (subst (λ (s : RoundState H L C). AreEventVisited health moment due s (round_servers health s) short new) is all)
 
   -- where no prober is at work and no probe is out, nothing is done at any server
-  visited_idle : (moment due : ℕ) (at : RoundState H L C) → IsIdle at.backend.probers at.probes → (count : ℕ)
-      → count ≤ length at.probes.out → AreVisited health moment due at count false at
+  visited_idle : (moment due : ℕ) (at : RoundState H L C) → HasNoProbes at.backend.probers at.probes → (count : ℕ)
+      → count ≤ length at.probes.out → AreEventVisited health moment due at count false at
   visited_idle moment due at idle zero within = visited_none moment due at
   visited_idle moment due at idle (suc count) within =
       let below : count ≤ length at.probes.out = omega (arith, within) in
       let free = each_unset at.probes.out count idle.none (omega (arith, within)) in
       let passed = inl (prober-quiet at.backend.probers.slots count idle.quiet, refl) in
-      let last : IsVisited health moment due at count false at =
+      let last : IsEventVisited health moment due at count false at =
       record {
         visit = record { server = count; taken = None; next = Passed };
         at = refl;
@@ -129,17 +129,17 @@ module _ {H L C : Type 0} (health : HealthGhosts H) where
         memory = refl;
       } in
       let all = visited_more (visited_idle moment due at idle count below) last in
-      subst (λ n. AreVisited health moment due at n false at) (add-one count) all
+      subst (λ n. AreEventVisited health moment due at n false at) (add-one count) all
 
-  pub round_idle : (moment due : ℕ) (old : RoundState H L C) → IsIdle old.backend.probers old.probes
-      → IsRound health moment due old false old
+  pub round_idle : (moment due : ℕ) (old : RoundState H L C) → HasNoProbes old.backend.probers old.probes
+      → IsEventRound health moment due old false old
   round_idle moment due old idle =
       let slots : begun_at moment old.backend.probers ≡ old.backend.probers =
       ap (λ (slots : List ProbeSlot). record old.backend.probers { slots = slots })
       (begun-quiet old.backend.probers.delays moment old.backend.probers.slots idle.quiet) in
-      let same : begun moment old ≡ old =
+      let same : begun_round moment old ≡ old =
       ap (λ (p : ProbersState). record old { backend = record old.backend { probers = p } }) slots in
-      let within : servers_of health old ≤ length old.probes.out = omega arith in
+      let within : round_servers health old ≤ length old.probes.out = omega arith in
       round_of moment due old false old
-      (subst (λ s. AreVisited health moment due s (servers_of health old) false old) (sym same)
-      (visited_idle moment due old idle (servers_of health old) within))
+      (subst (λ s. AreEventVisited health moment due s (round_servers health old) false old) (sym same)
+      (visited_idle moment due old idle (round_servers health old) within))

@@ -10,8 +10,8 @@ use Rattle.tko_mux.specs.declared.asking.Came.{Came}
 use Rattle.tko_port.specs.declared.peer.Peer.{Peer}
 use Rattle.tko_prober.specs.declared.backend.Backend.{Backend}
 use Rattle.tko_prober.specs.declared.prober.Prober.{Prober}
-use Rattle.tko_prober.specs.declared.prober.Stage.{Stage}
-use Rattle.tko_prober.specs.declared.prober.Stage.TheVariants.{Ended, Out, Waiting}
+use Rattle.tko_prober.specs.declared.prober.ProberStage.{ProberStage}
+use Rattle.tko_prober.specs.declared.prober.ProberStage.TheVariants.{Ended, Out, Waiting}
 use Rattle.tko_prober.specs.Halves.{IsOut, IsResult}
 use Rattle.tko_prober.specs.Probers.{prober_of}
 use Rattle.tko_reply.specs.declared.parts.Parts.{Parts}
@@ -19,12 +19,12 @@ use Rattle.tko_client.specs.Steps.{HasStayed}
 use Rattle.tko_worker.specs.Turns.{probed_at}
 use Rattle.tko_worker.specs.Workers.{WorkerState}
 use Rattle.tko_rounds.specs.Parts.{DueAt, with_begun, with_probing}
-use Rattle.tko_rounds.specs.Probes.{IsNoneOut, IsOneOut, ProbesState, count_of, is_probe, probed_by, with_out}
-use Rattle.tko_rounds.specs.Rounds.{HasCome, HasNext, HasTaken, Lost, RoundState, Taking, asked, unasked}
+use Rattle.tko_rounds.specs.Probes.{IsNoneOut, IsOneOut, ProbesState, count_of, is_counted_probe, probed_of_came, with_out}
+use Rattle.tko_rounds.specs.Rounds.{HasNext, HasProbeCome, HasProbeTaken, Lost, ProbeTaking, RoundState, asked, unasked}
 use Rattle.tko_rounds.specs.Workers.{KeepsClients}
 
 -- a probe is out, or is not
-stage_out : (stage : Stage) → (stage ≡ Out) ⊎ (stage ≡ Out → ⊥)
+stage_out : (stage : ProberStage) → (stage ≡ Out) ⊎ (stage ≡ Out → ⊥)
 stage_out (Waiting due) = inr (λ out. cc)
 stage_out Out = inl refl
 stage_out Ended = inr (λ out. cc)
@@ -43,9 +43,9 @@ module _ {H L C : Type 0} (health : HealthGhosts H) where
   -- a result was recorded if a probe is out, and else nothing was
   pub come_of : (moment : ℕ) (old : Backend H L C) (server : ℕ) (came : Came) (reply : Option Reply) (new : Backend H L C)
       → ((prober : Prober) → IsOut old.probers server prober
-      → IsResult health.steps moment old server prober (probed_by came) reply new)
+      → IsResult health.steps moment old server prober (probed_of_came came) reply new)
       → (((prober : Prober) → ¬ IsOut old.probers server prober) → (reply ≡ None) × (new ≡ old))
-      → HasCome health moment old server (record { came = came; reply = reply }) new
+      → HasProbeCome health moment old server (record { came = came; reply = reply }) new
   come_of moment old server came reply new result none =
       elim (out_in (prober_of old.probers server)) [
         | inl found ↦
@@ -89,13 +89,13 @@ probed_same {L} old new at same = ap (λ (peer : Option (Peer L)). option_and_th
 module _ {H L C : Type 0} {health : HealthGhosts H} where
   -- what came of the probe that is out was taken
   pub took_one : (moment server : ℕ) (old : RoundState H L C) (limit : ℕ) (backend : Backend H L C) (lines : List LineState)
-      (arrived : ℕ → Option Came) (mid probes : ProbesState) (it : Taking)
+      (arrived : ℕ → Option Came) (mid probes : ProbesState) (it : ProbeTaking)
       → IsOneOut old.probes server → old.came server ≡ Some it.came → arrived server ≡ None
-      → ((at : ℕ) → at ≢ server → arrived at ≡ old.came at) → HasCome health moment old.backend server it backend
+      → ((at : ℕ) → at ≢ server → arrived at ≡ old.came at) → HasProbeCome health moment old.backend server it backend
       → mid ≡ with_out server false old.probes
-      → ((at : ℕ) → count_of probes at ≡ count_of mid at + part_of (is_probe it.came) server at)
+      → ((at : ℕ) → count_of probes at ≡ count_of mid at + part_of (is_counted_probe it.came) server at)
       → length probes.counts ≡ length mid.counts → probes.out ≡ mid.out → limit ≡ old.limit → lines ≡ old.lines
-      → HasTaken health moment old server
+      → HasProbeTaken health moment old server
       (record { limit = limit; backend = backend; lines = lines; came = arrived; probes = probes })
   took_one moment server old limit backend lines arrived mid probes it out has gone others come is_mid counted counts outs is_limit is_lines = record {
     it = Some it;
@@ -106,7 +106,7 @@ module _ {H L C : Type 0} {health : HealthGhosts H} where
         left = gone;
         same = others;
         has_come = come;
-        counted = λ at. counted at ∙ ap (λ (p : ProbesState). count_of p at + part_of (is_probe it.came) server at) is_mid;
+        counted = λ at. counted at ∙ ap (λ (p : ProbesState). count_of p at + part_of (is_counted_probe it.came) server at) is_mid;
         counts = counts ∙ ap (λ (p : ProbesState). length p.counts) is_mid;
         out = outs ∙ ap (λ (p : ProbesState). p.out) is_mid;
         others = rw (is_limit, is_lines) refl;
@@ -118,7 +118,7 @@ module _ {H L C : Type 0} {health : HealthGhosts H} where
   pub next_lost : (moment due server duty : ℕ) (old : RoundState H L C) (limit : ℕ) (backend mid : Backend H L C)
       (lines : List LineState) (probes : ProbesState) (reply : Option Reply)
       → IsNoneOut old.probes server → DueAt health moment server old.backend (Some duty) mid
-      → HasCome health moment mid server (record { came = no_memory; reply = reply }) backend
+      → HasProbeCome health moment mid server (record { came = no_memory; reply = reply }) backend
       → probes ≡ old.probes → limit ≡ old.limit → lines ≡ old.lines
       → HasNext health moment due old server true
       (record { limit = limit; backend = backend; lines = lines; came = old.came; probes = probes })

@@ -4,10 +4,10 @@ use Rattle.tko_model.specs.declared.mark.Reply.{Reply}
 use Rattle.tko_mux.specs.declared.asking.Came.{Came}
 use Rattle.tko_health.specs.declared.health.Health.{Ghosts as HealthGhosts}
 use Rattle.tko_prober.specs.declared.backend.Backend.{Backend}
-use Rattle.tko_prober.specs.Halves.{IsPassed, IsSent}
+use Rattle.tko_prober.specs.Halves.{IsPassed, IsProbeSent}
 use Rattle.tko_prober.specs.Probers.{begun_at}
 use Rattle.tko_reply.specs.declared.parts.Parts.{Parts}
-use Rattle.tko_rounds.specs.Rounds.{HasCome}
+use Rattle.tko_rounds.specs.Rounds.{HasProbeCome}
 
 -- the same parts with the health and the probers of this backend
 abbrev pub with_probing : {H L T C : Type 0} → Backend H L C → Parts H L T C → Parts H L T C
@@ -26,7 +26,7 @@ module _ {H L C : Type 0} (health : HealthGhosts H) where
   abbrev pub DueAt : ℕ → ℕ → Backend H L C → Option ℕ → Backend H L C → Type 0
   DueAt moment server old None new = IsPassed health.steps health.grants moment old server new
   DueAt moment server old (Some duty) new =
-      (duty ≡ server) × IsSent health.grants moment old server new
+      (duty ≡ server) × IsProbeSent health.grants moment old server new
 
 module _ {H L T C : Type 0} (health : HealthGhosts H) where
   -- the same over the parts, which stay else
@@ -39,7 +39,7 @@ module _ {H L T C : Type 0} (health : HealthGhosts H) where
   -- what came of a probe of this server was recorded
   pub record TakesResult (moment server : ℕ) (came : Came) (old : Parts H L T C)
       (reply : Option Reply) (new : Parts H L T C) : Type 0 where
-    pub has_come : HasCome health moment old.backend server (record { came = came; reply = reply })
-        new.backend
+    pub has_come : HasProbeCome health moment old.backend server
+        (record { came = came; reply = reply }) new.backend
     pub others : new ≡ with_probing new.backend old
     pub servers : health.servers new.backend.health ≡ health.servers old.backend.health

@@ -36,9 +36,9 @@ abbrev pub with_out : ℕ → Bool → ProbesState → ProbesState
 with_out server is_out probes = record probes { out = slice_set probes.out server is_out }
 
 -- what came of a probe, to its prober, as the blocking worker's
-abbrev pub probed_by : Came → Probed
-probed_by came = probed_of (result_of came)
+abbrev pub probed_of_came : Came → Probed
+probed_of_came came = probed_of (result_of came)
 
 -- whether a probe that came to this counts as one
-abbrev pub is_probe : Came → Bool
-is_probe came = is_counted (result_of came)
+abbrev pub is_counted_probe : Came → Bool
+is_counted_probe came = is_counted (result_of came)

@@ -1,15 +1,15 @@
 //! What came of a probe, in the words of a worker that waits.
 ghost use Rattle.std.specs.Prelude.{◌≡◌};
 ghost use Rattle.tko_client.specs.Comings.{result_of};
-ghost use Rattle.tko_rounds.specs.Probes.{is_probe, probed_by};
+ghost use Rattle.tko_rounds.specs.Probes.{is_counted_probe, probed_of_came};
 
-use tko_links::{NoMemory, Outcome};
+use tko_links::{ExchangeNoMemory, Outcome};
 use tko_mux::Came;
 use tko_pipe::Fate;
 use tko_prober::Probed;
 
 /// What came of a probe. Where memory ran out for it, it is not counted.
-pub(crate) fn result_of(came: Came) -> Result<Outcome, NoMemory>
+pub(crate) fn result_of(came: Came) -> Result<Outcome, ExchangeNoMemory>
     ensures { result ≡ result_of came }
 {
     match came {
@@ -18,14 +18,14 @@ pub(crate) fn result_of(came: Came) -> Result<Outcome, NoMemory>
         Came::Fate(Fate::Timeout) => Ok(Outcome::Timeout),
         Came::Fate(Fate::Broken) => Ok(Outcome::Broken),
         Came::Fate(Fate::Aborted) => Ok(Outcome::Aborted),
-        Came::Fate(Fate::Memory) => Err(NoMemory { sent: false }),
-        Came::Unsent => Err(NoMemory { sent: false }),
+        Came::Fate(Fate::Memory) => Err(ExchangeNoMemory { sent: false }),
+        Came::Unsent => Err(ExchangeNoMemory { sent: false }),
     }
 }
 
 /// The same to the prober that sent it.
 pub(crate) fn probed_by(came: &Came) -> Probed
-    ensures { result ≡ probed_by came.now }
+    ensures { result ≡ probed_of_came came.now }
 {
     match came {
         Came::Response(_) => Probed::Answered,
@@ -40,7 +40,7 @@ pub(crate) fn probed_by(came: &Came) -> Probed
 
 /// Whether it counts as a probe.
 pub(crate) fn is_probe(came: &Came) -> bool
-    ensures { result ≡ is_probe came.now }
+    ensures { result ≡ is_counted_probe came.now }
 {
     match came {
         Came::Response(_) => true,

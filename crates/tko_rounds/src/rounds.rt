@@ -3,7 +3,7 @@ ghost use Rattle.std.specs.Prelude.{◌≡◌, ◌<◌, ◌+◌, ℕ, false, IfO
 ghost use Rattle.std.specs.Bool.{OnFalse, OnTrue};
 ghost use Rattle.tko_io.specs.Io.{capped};
 ghost use Rattle.tko_links.specs.Links.{part_of};
-ghost use Rattle.tko_rounds.specs.Probes.{count_of, is_probe, no_probes, outs, with_out};
+ghost use Rattle.tko_rounds.specs.Probes.{count_of, is_counted_probe, no_probes, outs, with_out};
 
 use crate::coming::is_probe;
 use std::alloc::Global;
@@ -102,8 +102,8 @@ impl Rounds {
     pub(crate) fn count<R: Wait>(&mut self, rt: &R, server: usize, came: &Came)
         requires { server < length self.old.out }
         ensures counted { (at : ℕ) → count_of self.new at
-            ≡ count_of self.old at + part_of (is_probe came.now) server at }
-        ensures uncounted { is_probe came.now ≡ false → self.new ≡ self.old }
+            ≡ count_of self.old at + part_of (is_counted_probe came.now) server at }
+        ensures uncounted { is_counted_probe came.now ≡ false → self.new ≡ self.old }
         ensures counts { length self.new.counts ≡ length self.old.counts }
         ensures out { self.new.out ≡ self.old.out }
     {

@@ -7,8 +7,8 @@ ghost use Rattle.tko_links.specs.Links.{part_of};
 ghost use Rattle.tko_worker.specs.Turns.{socket_at};
 ghost use Rattle.tko_worker.specs.Workers.{IsInOrder};
 ghost use Rattle.tko_rounds.specs.Parts.{TakesResult, with_probing};
-ghost use Rattle.tko_rounds.specs.Probes.{count_of, is_probe};
-ghost use Rattle.tko_rounds.specs.Rounds.{AreVisited, HasNext, HasTaken, IsIdle, IsRound, IsVisited, servers_of};
+ghost use Rattle.tko_rounds.specs.Probes.{count_of, is_counted_probe};
+ghost use Rattle.tko_rounds.specs.Rounds.{AreEventVisited, HasNext, HasNoProbes, HasProbeTaken, IsEventRound, IsEventVisited, round_servers};
 ghost use Rattle.tko_rounds.specs.Workers.{KeepsClients, is_ready, parts_in, state_of};
 
 use crate::Rounds;
@@ -26,7 +26,7 @@ use tko_session::Trails;
 use tko_worker::{EventWorker, Worker};
 
 /// The clients of a worker.
-type Clients<'r, L, R, H, T, C> = Worker<L, EventClient, Lent<'r, R, H, T, C>>;
+type RoundClients<'r, L, R, H, T, C> = Worker<L, EventClient, Lent<'r, R, H, T, C>>;
 
 /// A worker as a whole: its clients and its servers.
 type Whole<'r, L, R, H, T, C> = EventWorker<L, EventClient, Lent<'r, R, H, T, C>>;
@@ -45,9 +45,9 @@ impl Rounds {
         due: u64,
     ) -> Result<(), NoMemory>
         requires order { IsInOrder (awaits, talk_of, L.port) is_ready worker.old.clients }
-        ensures round { IsRound H.Health moment due (state_of self.old worker.old) (is_err result)
-            (state_of self.new worker.new) }
-        ensures idle { IsIdle (parts_in worker.old.clients).backend.probers self.old
+        ensures round { IsEventRound H.Health moment due
+            (state_of self.old worker.old) (is_err result) (state_of self.new worker.new) }
+        ensures idle { HasNoProbes (parts_in worker.old.clients).backend.probers self.old
             → (self.new ≡ self.old) × (worker.new ≡ worker.old) }
         ensures stays { HasStayed H.servers (parts_in worker.old.clients)
             (parts_in worker.new.clients) }
@@ -75,10 +75,11 @@ impl Rounds {
     /// Whether no prober is at work or going to be, and no probe is out.
     fn is_idle<'r, L: Port + Drop, R: IoRuntime, H: Health, T: Trails, C>(
         &self,
-        clients: &Clients<'r, L, R, H, T, C>,
+        clients: &RoundClients<'r, L, R, H, T, C>,
     ) -> bool
-        ensures yes { OnTrue result (IsIdle (parts_in clients.now).backend.probers self.now) }
-        ensures no { OnFalse result (¬ IsIdle (parts_in clients.now).backend.probers self.now) }
+        ensures yes { OnTrue result (HasNoProbes (parts_in clients.now).backend.probers self.now) }
+        ensures no { OnFalse result
+            (¬ HasNoProbes (parts_in clients.now).backend.probers self.now) }
     {
         if !self.has_none_out() {
             return false;
@@ -95,7 +96,7 @@ impl Rounds {
         due: u64,
     ) -> bool
         requires order { IsInOrder (awaits, talk_of, L.port) is_ready worker.old.clients }
-        ensures round { IsRound H.Health moment due (state_of self.old worker.old) result
+        ensures round { IsEventRound H.Health moment due (state_of self.old worker.old) result
             (state_of self.new worker.new) }
         ensures parts { parts_in worker.new.clients
             ≡ with_probing (parts_in worker.new.clients).backend (parts_in worker.old.clients) }
@@ -122,8 +123,8 @@ impl Rounds {
         due: u64,
     ) -> bool
         requires order { IsInOrder (awaits, talk_of, L.port) is_ready worker.old.clients }
-        ensures visits { AreVisited H.Health moment due (state_of self.old worker.old)
-            (servers_of H.Health (state_of self.old worker.old)) result
+        ensures visits { AreEventVisited H.Health moment due (state_of self.old worker.old)
+            (round_servers H.Health (state_of self.old worker.old)) result
             (state_of self.new worker.new) }
         ensures parts { parts_in worker.new.clients
             ≡ with_probing (parts_in worker.new.clients).backend (parts_in worker.old.clients) }
@@ -147,7 +148,7 @@ impl Rounds {
     /// How many servers a round visits: those that have a count, a line and a health.
     fn servers_of<'r, L: Port + Drop, R: IoRuntime, H: Health, T: Trails, C>(
         &self,
-        clients: &Clients<'r, L, R, H, T, C>,
+        clients: &RoundClients<'r, L, R, H, T, C>,
     ) -> usize
         ensures { result ≡ min (length self.now.out) (min (length clients.now.mux.lines)
             (H.servers (parts_in clients.now).backend.health)) }
@@ -169,8 +170,8 @@ impl Rounds {
         requires line { server < length worker.old.clients.mux.lines }
         requires health { server < H.servers (parts_in worker.old.clients).backend.health }
         requires order { IsInOrder (awaits, talk_of, L.port) is_ready worker.old.clients }
-        ensures visit { IsVisited H.Health moment due (state_of self.old worker.old) server result
-            (state_of self.new worker.new) }
+        ensures visit { IsEventVisited H.Health moment due
+            (state_of self.old worker.old) server result (state_of self.new worker.new) }
         ensures parts { parts_in worker.new.clients
             ≡ with_probing (parts_in worker.new.clients).backend (parts_in worker.old.clients) }
         ensures clients { KeepsClients worker.old.clients worker.new.clients }
@@ -198,7 +199,7 @@ impl Rounds {
         requires line { server < length worker.old.clients.mux.lines }
         requires health { server < H.servers (parts_in worker.old.clients).backend.health }
         requires order { IsInOrder (awaits, talk_of, L.port) is_ready worker.old.clients }
-        ensures taken { HasTaken H.Health moment (state_of self.old worker.old) server
+        ensures taken { HasProbeTaken H.Health moment (state_of self.old worker.old) server
             (state_of self.new worker.new) }
         ensures parts { parts_in worker.new.clients
             ≡ with_probing (parts_in worker.new.clients).backend (parts_in worker.old.clients) }
@@ -275,7 +276,7 @@ impl Rounds {
     /// replied.
     fn settle<'r, L: Port + Drop, R: IoRuntime, H: Health, T: Trails, C>(
         &mut self,
-        clients: &mut Clients<'r, L, R, H, T, C>,
+        clients: &mut RoundClients<'r, L, R, H, T, C>,
         server: usize,
         moment: u64,
         came: Came,
@@ -286,8 +287,8 @@ impl Rounds {
         ensures takes { TakesResult H.Health moment server came (parts_in clients.old) result
             (parts_in clients.new) }
         ensures counted { (at : ℕ) → count_of self.new at
-            ≡ count_of self.old at + part_of (is_probe came) server at }
-        ensures uncounted { is_probe came ≡ false → self.new ≡ self.old }
+            ≡ count_of self.old at + part_of (is_counted_probe came) server at }
+        ensures uncounted { is_counted_probe came ≡ false → self.new ≡ self.old }
         ensures counts { length self.new.counts ≡ length self.old.counts }
         ensures out { self.new.out ≡ self.old.out }
         ensures lines { clients.new.mux.lines ≡ clients.old.mux.lines }

@@ -11,7 +11,7 @@ use tko_io::FrozenClock;
 use tko_links::Outcome;
 use tko_model::{Look, Mark, OneGroup, Plain};
 use tko_pools::Config;
-use tko_port::{MemoryPort, Shared};
+use tko_port::{MemoryPort, SharedParts};
 use tko_prober::{Backend, Delays, Probers};
 use tko_route::{Attempt, Health, PlainHealth};
 use tko_session::{Kept, Parts};
@@ -62,7 +62,7 @@ fn new_worker<'r, R: Wait + Net<Stream = TcpStream> + Clock>(
     rt: &'r R,
     alloc: Global,
 ) -> Result<MemoryWorker<'r, R>, Fail> {
-    let shared = Shared {
+    let shared = SharedParts {
         parts: Lent::new(rt, alloc, marked_parts(rt, alloc)?),
         buffer: vec![in alloc; 0; 64]?,
     };

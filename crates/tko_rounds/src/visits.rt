@@ -6,7 +6,7 @@ use tko_io::IoRuntime;
 use tko_model::{Duty, Reply};
 use tko_mux::Came;
 use tko_prober::ProbeEnd;
-use tko_roster::Visit;
+use tko_roster::PartsVisit;
 use tko_route::Health;
 use tko_session::Trails;
 
@@ -16,7 +16,7 @@ pub(crate) struct BeginProbers {
     pub moment: u64,
 }
 
-impl<'r, R: IoRuntime, H: Health, T: Trails, C> Visit<Lent<'r, R, H, T, C>> for BeginProbers {
+impl<'r, R: IoRuntime, H: Health, T: Trails, C> PartsVisit<Lent<'r, R, H, T, C>> for BeginProbers {
     ghost use Rattle.std.specs.Prelude.{◌≡◌};
     ghost use Rattle.tko_client.specs.Steps.{HasStayed};
     ghost use Rattle.tko_rounds.specs.Parts.{with_begun};
@@ -39,7 +39,7 @@ pub(crate) struct FindDue {
     pub moment: u64,
 }
 
-impl<'r, R: IoRuntime, H: Health, T: Trails, C> Visit<Lent<'r, R, H, T, C>> for FindDue {
+impl<'r, R: IoRuntime, H: Health, T: Trails, C> PartsVisit<Lent<'r, R, H, T, C>> for FindDue {
     ghost use Rattle.std.specs.Prelude.{◌≡◌, ◌<◌};
     ghost use Rattle.tko_client.specs.Steps.{HasStayed};
     ghost use Rattle.tko_rounds.specs.Parts.{FindsDue};
@@ -72,7 +72,7 @@ pub(crate) struct TakeResult {
     pub probes: u64,
 }
 
-impl<'r, R: IoRuntime, H: Health, T: Trails, C> Visit<Lent<'r, R, H, T, C>> for TakeResult {
+impl<'r, R: IoRuntime, H: Health, T: Trails, C> PartsVisit<Lent<'r, R, H, T, C>> for TakeResult {
     ghost use Rattle.std.specs.Prelude.{◌≡◌, ◌<◌};
     ghost use Rattle.tko_client.specs.Steps.{HasStayed};
     ghost use Rattle.tko_rounds.specs.Parts.{TakesResult};

@@ -14,9 +14,9 @@ use Rattle.tko_route.specs.declared.attempt.Attempt.{Attempt}
 use Rattle.tko_route.specs.declared.attempt.Attempt.TheVariants as attempt
 use Rattle.tko_route.specs.declared.routing.Stage.{Stage}
 use Rattle.tko_route.specs.declared.routing.Stage.TheVariants as stage
-use Rattle.tko_route.specs.Calls.{Call, Told, came, look_up}
+use Rattle.tko_route.specs.Calls.{RoutedCall, Told, came, look_up}
 use Rattle.tko_route.specs.Routing.{FindsUp, GoesOn, Reached, came_of, told_of}
-use Rattle.tko_route.specs.Trail.{IsAttempt, IsRecorded, IsTrail, Makes, op_of, outcome_of, record_of, recorded_reply, server_of}
+use Rattle.tko_route.specs.Trail.{IsAttempt, IsRecorded, IsTrail, MakesTrail, op_of, outcome_of, record_of, recorded_reply, server_of}
 use Rattle.tko_route.specs.Underway.{Awaited}
 use Rattle.tko_route.proofs.TrailLemmas.{makes_pushed}
 
@@ -63,10 +63,10 @@ ended request count server (attempt.Spent at) got answered fits is replied at_is
     subst (λ (n : ℕ). P got n) at_is (subst (λ (o : Outcome). P o at) same (count, refl))
 
 -- what came of a send, and the call that recorded it, make the attempt
-pub makes_recorded : {form : ℕ → Request} {calls : List Call} (waiting : Awaited) {all : List Attempt} (it : Attempt) (got : Outcome) (answered : Option Reply)
+pub makes_recorded : {form : ℕ → Request} {calls : List RoutedCall} (waiting : Awaited) {all : List Attempt} (it : Attempt) (got : Outcome) (answered : Option Reply)
     → (IsSome answered ↔ IsSome (op_of got)) → outcome_of it ≡ Some got → recorded_reply it ≡ answered → server_of it ≡ waiting.server
     → all ≡ waiting.attempts ++ it ∷ [] → FindsUp form calls waiting.attempts waiting.server
-    → Makes form (calls ++ came_of form waiting got ∷ told_of waiting got answered) all
+    → MakesTrail form (calls ++ came_of form waiting got ∷ told_of waiting got answered) all
 makes_recorded {form} waiting it got answered fits is replied at e up =
     let item = came_of form waiting got in
     let look = look_up waiting.server (reply.Up up.count) in
@@ -78,9 +78,9 @@ module _ {H : Type 0} {steps : H → HealthItem → H → Type 0} where
   -- what came of a send was an answer
   pub done_then : (health : H) {attempts trail : List Attempt} (targets : List ℕ) (waiting : Awaited) (got : Outcome) (answered : Option Reply)
       → IsTrail targets trail → trail ≡ attempts
-      → ((form : ℕ → Request) (calls : List Call) → FindsUp form calls waiting.attempts waiting.server
-      → Makes form (calls ++ came_of form waiting got ∷ told_of waiting got answered) attempts)
-      → GoesOn steps health (λ more. (form : ℕ → Request) (calls : List Call) → FindsUp form calls waiting.attempts waiting.server
+      → ((form : ℕ → Request) (calls : List RoutedCall) → FindsUp form calls waiting.attempts waiting.server
+      → MakesTrail form (calls ++ came_of form waiting got ∷ told_of waiting got answered) attempts)
+      → GoesOn steps health (λ more. (form : ℕ → Request) (calls : List RoutedCall) → FindsUp form calls waiting.attempts waiting.server
       → Reached targets form (calls ++ came_of form waiting got ∷ (told_of waiting got answered ++ more)) (stage.Done trail)) health
   done_then health targets waiting got answered whole e make = record {
     items = [];
@@ -93,10 +93,10 @@ module _ {H : Type 0} {steps : H → HealthItem → H → Type 0} where
 
   -- health was asked more after it
   pub then_on : {old new : H} {attempts : List Attempt} (targets : List ℕ) (waiting : Awaited) (got : Outcome) (answered : Option Reply) (to : Stage)
-      → ((form : ℕ → Request) (calls : List Call) → FindsUp form calls waiting.attempts waiting.server
-      → Makes form (calls ++ came_of form waiting got ∷ told_of waiting got answered) attempts)
-      → GoesOn steps old (λ more. (form : ℕ → Request) (calls : List Call) → Makes form calls attempts → Reached targets form (calls ++ more) to) new
-      → GoesOn steps old (λ more. (form : ℕ → Request) (calls : List Call) → FindsUp form calls waiting.attempts waiting.server
+      → ((form : ℕ → Request) (calls : List RoutedCall) → FindsUp form calls waiting.attempts waiting.server
+      → MakesTrail form (calls ++ came_of form waiting got ∷ told_of waiting got answered) attempts)
+      → GoesOn steps old (λ more. (form : ℕ → Request) (calls : List RoutedCall) → MakesTrail form calls attempts → Reached targets form (calls ++ more) to) new
+      → GoesOn steps old (λ more. (form : ℕ → Request) (calls : List RoutedCall) → FindsUp form calls waiting.attempts waiting.server
       → Reached targets form (calls ++ came_of form waiting got ∷ (told_of waiting got answered ++ more)) to) new
   then_on targets waiting got answered to make on = record {
     items = on.items;
@@ -110,9 +110,9 @@ module _ {H : Type 0} {steps : H → HealthItem → H → Type 0} where
   -- the call that recorded it was one of its own
   pub record_then : {old mid new : H} (targets : List ℕ) (waiting : Awaited) (got : Outcome) (answered : Option Reply) (to : Stage)
       → IsRecorded steps old waiting.server (op_of got) answered mid
-      → GoesOn steps mid (λ more. (form : ℕ → Request) (calls : List Call) → FindsUp form calls waiting.attempts waiting.server
+      → GoesOn steps mid (λ more. (form : ℕ → Request) (calls : List RoutedCall) → FindsUp form calls waiting.attempts waiting.server
       → Reached targets form (calls ++ came_of form waiting got ∷ (told_of waiting got answered ++ more)) to) new
-      → GoesOn steps old (λ more. (form : ℕ → Request) (calls : List Call) → FindsUp form calls waiting.attempts waiting.server
+      → GoesOn steps old (λ more. (form : ℕ → Request) (calls : List RoutedCall) → FindsUp form calls waiting.attempts waiting.server
       → Reached targets form (calls ++ came_of form waiting got ∷ more) to) new
   record_then targets waiting got answered to recorded on =
       let first = record_of waiting.server (op_of got) answered in record {

@@ -15,9 +15,9 @@ use Rattle.tko_model.proofs.RecordLemmas.{gains_push}
 use Rattle.tko_text.specs.declared.request.Request.{Request}
 use Rattle.tko_route.specs.declared.attempt.Attempt.{Attempt}
 use Rattle.tko_route.specs.declared.attempt.Attempt.TheVariants as attempt
-use Rattle.tko_route.specs.Calls.{Call, Told}
+use Rattle.tko_route.specs.Calls.{RoutedCall, Told}
 use Rattle.tko_route.specs.Routing.{GoesOn, IsAwaited, IsConcluded, IsTried, Reached}
-use Rattle.tko_route.specs.Trail.{IsAnswer, IsTrail, LastAnswered, Makes, NoneAnswered, answer_of, next_target, response_of, server_of}
+use Rattle.tko_route.specs.Trail.{IsAnswer, IsTrail, LastAnswered, MakesTrail, NoneAnswered, answer_of, next_target, response_of, server_of}
 use Rattle.tko_route.proofs.TrailLemmas.{makes_pushed}
 use Rattle.tko_route.specs.declared.routing.Stage.TheVariants as stage
 use Rattle.tko_route.specs.Underway.{Awaited}
@@ -114,7 +114,7 @@ all_tried {targets} {attempts} tried none e =
     subst (IsTrail targets) (sym e) (record { servers = tried.servers; ends = inl (all, tried.unanswered) })
 
 -- one call more
-one_told : (calls : List Call) (items : List HealthItem) (item : HealthItem)
+one_told : (calls : List RoutedCall) (items : List HealthItem) (item : HealthItem)
     → calls ++ map Told (items ++ item ∷ []) ≡ (calls ++ map Told items) ++ Told item ∷ []
 one_told calls items item =
     ap (λ told. calls ++ told) (map-append Told items (item ∷ [])) ∙ sym (append_assoc calls (map Told items) (Told item ∷ []))
@@ -122,10 +122,10 @@ one_told calls items item =
 module _ {H : Type 0} {steps : H → HealthItem → H → Type 0} where
   -- one more marked server was skipped
   pub skipped : {old mid new : H} {was trail all : List Attempt} (server : ℕ) (mark : Mark)
-      → GoesOn steps old (λ more. (form : ℕ → Request) (calls : List Call) → Makes form calls was → Makes form (calls ++ more) trail) mid
+      → GoesOn steps old (λ more. (form : ℕ → Request) (calls : List RoutedCall) → MakesTrail form calls was → MakesTrail form (calls ++ more) trail) mid
       → steps mid (Called LookUp server (reply.Marked mark)) new
       → all ≡ trail ++ attempt.Skipped server mark ∷ []
-      → GoesOn steps old (λ more. (form : ℕ → Request) (calls : List Call) → Makes form calls was → Makes form (calls ++ more) all) new
+      → GoesOn steps old (λ more. (form : ℕ → Request) (calls : List RoutedCall) → MakesTrail form calls was → MakesTrail form (calls ++ more) all) new
   skipped server mark on step e =
       let item = Called LookUp server (reply.Marked mark) in
       record {
@@ -137,9 +137,9 @@ module _ {H : Type 0} {steps : H → HealthItem → H → Type 0} where
   -- then a server was found up
   pub found_up : {old mid new : H} {was : List Attempt} {targets : List ℕ} {clear : ℕ} (waiting : Awaited) (count : ℕ)
       → IsAwaited targets waiting → clear ≡ waiting.server
-      → GoesOn steps old (λ more. (form : ℕ → Request) (calls : List Call) → Makes form calls was → Makes form (calls ++ more) waiting.attempts) mid
+      → GoesOn steps old (λ more. (form : ℕ → Request) (calls : List RoutedCall) → MakesTrail form calls was → MakesTrail form (calls ++ more) waiting.attempts) mid
       → steps mid (Called LookUp waiting.server (reply.Up count)) new
-      → GoesOn steps old (λ more. (form : ℕ → Request) (calls : List Call) → Makes form calls was → Reached targets form (calls ++ more) (stage.Away clear waiting)) new
+      → GoesOn steps old (λ more. (form : ℕ → Request) (calls : List RoutedCall) → MakesTrail form calls was → Reached targets form (calls ++ more) (stage.Away clear waiting)) new
   found_up waiting count awaited names on step =
       let item = Called LookUp waiting.server (reply.Up count) in
       record {
@@ -154,10 +154,10 @@ module _ {H : Type 0} {steps : H → HealthItem → H → Type 0} where
 
   -- or no target was left
   pub none_left : {old new : H} {was attempts trail : List Attempt} (targets : List ℕ) → IsTrail targets trail → trail ≡ attempts
-      → GoesOn steps old (λ more. (form : ℕ → Request) (calls : List Call) → Makes form calls was → Makes form (calls ++ more) attempts) new
-      → GoesOn steps old (λ more. (form : ℕ → Request) (calls : List Call) → Makes form calls was → Reached targets form (calls ++ more) (stage.Done trail)) new
+      → GoesOn steps old (λ more. (form : ℕ → Request) (calls : List RoutedCall) → MakesTrail form calls was → MakesTrail form (calls ++ more) attempts) new
+      → GoesOn steps old (λ more. (form : ℕ → Request) (calls : List RoutedCall) → MakesTrail form calls was → Reached targets form (calls ++ more) (stage.Done trail)) new
   none_left targets whole e on = record {
     items = on.items;
     gains = on.gains;
-    is = λ form calls make. (whole, subst (Makes form (calls ++ map Told on.items)) (sym e) (on.is form calls make));
+    is = λ form calls make. (whole, subst (MakesTrail form (calls ++ map Told on.items)) (sym e) (on.is form calls make));
   }

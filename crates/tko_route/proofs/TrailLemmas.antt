@@ -12,8 +12,8 @@ use Rattle.tko_links.specs.declared.links.Outcome.TheVariants as outcome
 use Rattle.tko_links.specs.Links.{is_sent, part_of}
 use Rattle.tko_route.specs.declared.attempt.Attempt.{Attempt}
 use Rattle.tko_route.specs.declared.attempt.Attempt.TheVariants as attempt
-use Rattle.tko_route.specs.Calls.{Call, sends_of}
-use Rattle.tko_route.specs.Trail.{Adds, IsAttempt, Makes, Placed, form_at, is_send, op_of, placed_from, sends_in}
+use Rattle.tko_route.specs.Calls.{RoutedCall, sends_of}
+use Rattle.tko_route.specs.Trail.{AddsAttempt, IsAttempt, MakesTrail, Placed, form_at, is_send, op_of, placed_from, sends_in}
 
 none_is_some : {op : Op} → None ≡ Some op → ⊥
 none_is_some e = cc
@@ -44,16 +44,16 @@ pub count_pushed : (all trail : List Attempt) (it : Attempt) → all ≡ trail +
 count_pushed all trail it e = grind (arith, common_steps)
 
 -- without an attempt there are no calls
-pub makes_none : {form : ℕ → Request} {trail : List Attempt} → trail ≡ [] → Makes form [] trail
+pub makes_none : {form : ℕ → Request} {trail : List Attempt} → trail ≡ [] → MakesTrail form [] trail
 makes_none e = rw e (record { adds = gains_none [] })
 
 -- one more attempt adds its calls
-pub makes_pushed : {form : ℕ → Request} {calls all_calls : List Call} {trail all : List Attempt}
-    (it : Attempt) (more : List Call) → Makes form calls trail → IsAttempt (form (length trail)) more it
-    → all_calls ≡ calls ++ more → all ≡ trail ++ it ∷ [] → Makes form all_calls all
+pub makes_pushed : {form : ℕ → Request} {calls all_calls : List RoutedCall} {trail all : List Attempt}
+    (it : Attempt) (more : List RoutedCall) → MakesTrail form calls trail → IsAttempt (form (length trail)) more it
+    → all_calls ≡ calls ++ more → all ≡ trail ++ it ∷ [] → MakesTrail form all_calls all
 makes_pushed {form} {calls} {all_calls} {trail} it more make last grown pushed =
     let first : 0 + length trail ≡ length trail = omega arith in
-    let Q : List Placed → Type 0 = λ items. Gains (Adds form) [] items (calls ++ more) in
+    let Q : List Placed → Type 0 = λ items. Gains (AddsAttempt form) [] items (calls ++ more) in
     rw (grown, pushed) (record {
       adds = subst Q (sym (placed_push 0 (length trail) trail it first)) (gains_push make.adds (more, last, refl));
     })
@@ -69,7 +69,7 @@ sends_by_outcome outcome.Aborted op server s is = refl
 sends_by_outcome outcome.Spent op server s is = absurd (none_is_some is)
 
 -- the calls of an attempt sent to a server as often as the attempt did
-sends_by_attempt : (s : ℕ) (request : Request) (calls : List Call) (it : Attempt) → IsAttempt request calls it
+sends_by_attempt : (s : ℕ) (request : Request) (calls : List RoutedCall) (it : Attempt) → IsAttempt request calls it
     → sum_by (sends_of s) calls ≡ sends_in s (it ∷ [])
 sends_by_attempt s request calls (attempt.Skipped server mark) is = ap (sum_by (sends_of s)) is
 sends_by_attempt s request calls (attempt.Sent server got answer) (count, op, known, is) =
@@ -82,8 +82,8 @@ sends_by_attempt s request calls (attempt.Aborted server) (count, is) =
     omega (arith, total, one)
 sends_by_attempt s request calls (attempt.Spent server) (count, is) = ap (sum_by (sends_of s)) is
 
-sends_by_lead : (form : ℕ → Request) (s place : ℕ) (trail : List Attempt) (before after : List Call)
-    → Lead (Adds form) before (placed_from place trail) after
+sends_by_lead : (form : ℕ → Request) (s place : ℕ) (trail : List Attempt) (before after : List RoutedCall)
+    → Lead (AddsAttempt form) before (placed_from place trail) after
     → sum_by (sends_of s) after ≡ sum_by (sends_of s) before + sends_in s trail
 sends_by_lead form s place [] before after e =
     let same : sum_by (sends_of s) after ≡ sum_by (sends_of s) before = ap (sum_by (sends_of s)) e in omega (arith, same)
@@ -95,8 +95,8 @@ sends_by_lead form s place (it ∷ trail) before after (mid, (calls, is, grown),
     omega (arith, first, split, sends_by_attempt s (form place) calls it is, sends_by_lead form s (suc place) trail mid after rest)
 
 -- the calls of a trail sent to a server as often as the trail did
-pub sends_by_trail : {form : ℕ → Request} {calls : List Call} {trail : List Attempt} (s : ℕ)
-    → Makes form calls trail → sum_by (sends_of s) calls ≡ sends_in s trail
+pub sends_by_trail : {form : ℕ → Request} {calls : List RoutedCall} {trail : List Attempt} (s : ℕ)
+    → MakesTrail form calls trail → sum_by (sends_of s) calls ≡ sends_in s trail
 sends_by_trail {form} {calls} {trail} s make =
     let all : sum_by (sends_of s) calls ≡ 0 + sends_in s trail = sends_by_lead form s 0 trail [] calls make.adds.leads in
     omega (arith, all)

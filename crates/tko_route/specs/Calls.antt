@@ -6,10 +6,10 @@ use Rattle.tko_model.specs.Records.{HealthItem, Called}
 use Rattle.tko_health.specs.declared.health.Health.{Ghosts as HealthGhosts}
 use Rattle.tko_links.specs.declared.links.Links.{Ghosts as LinksGhosts}
 use Rattle.tko_text.specs.declared.request.Request.{Request}
-use Rattle.tko_links.specs.declared.links.NoMemory.{NoMemory}
+use Rattle.tko_links.specs.declared.links.ExchangeNoMemory.{ExchangeNoMemory}
 use Rattle.tko_links.specs.declared.links.Outcome.{Outcome}
 use Rattle.tko_links.specs.declared.links.Outcome.TheVariants as outcome
-use Rattle.tko_links.specs.Links.{Exchanged, LinksItem, is_counted, most_sends, part_of}
+use Rattle.tko_links.specs.Links.{HasExchanged, LinksItem, is_counted, most_sends, part_of}
 
 -- the servers as contracts see them: the record of their health, the record of the links to them,
 -- and how often each was sent to
@@ -27,37 +27,37 @@ upstream health links =
 pub record Exchange : Type 0 where
   pub server : ℕ
   pub request : Request
-  pub result : Result Outcome NoMemory
+  pub result : Result Outcome ExchangeNoMemory
 
 -- a call of a routed request: health was told or asked something, or this came of an exchange
-pub data Call : Type 0 where
-  Told : (item : HealthItem) → Call
-  Came : (exchange : Exchange) → Call
+pub data RoutedCall : Type 0 where
+  Told : (item : HealthItem) → RoutedCall
+  Came : (exchange : Exchange) → RoutedCall
 
 -- this came of the exchange of a request with a server
-abbrev pub came : ℕ → Request → Result Outcome NoMemory → Call
+abbrev pub came : ℕ → Request → Result Outcome ExchangeNoMemory → RoutedCall
 came server request result =
     Came (record { server = server; request = request; result = result })
 
 -- a server was looked up, and found so
-abbrev pub look_up : ℕ → Reply → Call
+abbrev pub look_up : ℕ → Reply → RoutedCall
 look_up server found = Told (Called LookUp server found)
 
 -- what came of an exchange: one that counted a send is one item of the links' record, nothing is
 -- sent exactly if the server's count of sends is used up, and the count rises by what was sent
 pub record IsExchange {H L : Type 0} (upstream : Upstream H L) (old : L) (it : Exchange) (new : L)
     : Type 0 where
-  pub item : Exchanged upstream.exchanges old it.server it.request it.result new
+  pub item : HasExchanged upstream.exchanges old it.server it.request it.result new
   pub spent : (it.result ≡ Ok outcome.Spent) ↔ (upstream.sent old it.server ≡ most_sends)
   pub sends : (server : ℕ) → upstream.sent new server
       ≡ upstream.sent old server + part_of (is_counted it.result) it.server server
 
 -- one call, as a step of health and links
-abbrev pub Does : {H L : Type 0} → Upstream H L → H × L → Call → H × L → Type 0
-Does upstream old (Told item) new = upstream.steps old.0 item new.0 × (new.1 ≡ old.1)
-Does upstream old (Came it) new = IsExchange upstream old.1 it new.1 × (new.0 ≡ old.0)
+abbrev pub DoesCall : {H L : Type 0} → Upstream H L → H × L → RoutedCall → H × L → Type 0
+DoesCall upstream old (Told item) new = upstream.steps old.0 item new.0 × (new.1 ≡ old.1)
+DoesCall upstream old (Came it) new = IsExchange upstream old.1 it new.1 × (new.0 ≡ old.0)
 
 -- how often these calls sent to a server
-abbrev pub sends_of : ℕ → Call → ℕ
+abbrev pub sends_of : ℕ → RoutedCall → ℕ
 sends_of server (Told item) = 0
 sends_of server (Came it) = part_of (is_counted it.result) it.server server

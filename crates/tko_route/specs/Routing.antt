@@ -8,11 +8,11 @@ use Rattle.tko_model.specs.declared.mark.Reply.TheVariants as reply
 use Rattle.tko_model.specs.Records.{Gains, HealthItem}
 use Rattle.tko_text.specs.declared.request.Request.{Request}
 use Rattle.tko_links.specs.declared.links.Outcome.{Outcome}
-use Rattle.tko_route.specs.Calls.{Call, Told, came, look_up}
+use Rattle.tko_route.specs.Calls.{RoutedCall, Told, came, look_up}
 use Rattle.tko_route.specs.declared.attempt.Attempt.{Attempt}
 use Rattle.tko_route.specs.declared.routing.Stage.{Stage}
 use Rattle.tko_route.specs.declared.routing.Stage.TheVariants as stage
-use Rattle.tko_route.specs.Trail.{IsCutTrail, IsTrail, LastAnswered, Makes, NoneAnswered, form_at, next_target, op_of, record_of, server_of}
+use Rattle.tko_route.specs.Trail.{IsCutTrail, IsTrail, LastAnswered, MakesTrail, NoneAnswered, form_at, next_target, op_of, record_of, server_of}
 use Rattle.tko_route.specs.Underway.{Awaited}
 
 -- the attempts are at targets in order, and none but the last was answered
@@ -32,28 +32,28 @@ pub record IsTried (targets : List ℕ) (trail : List Attempt) : Type 0 where
   pub unanswered : NoneAnswered trail
 
 -- these calls made a trail, and then found this server up
-pub record FindsUp (form : ℕ → Request) (calls : List Call) (trail : List Attempt) (server : ℕ)
-    : Type 0 where
-  pub before : List Call
-  pub make : Makes form before trail
+pub record FindsUp (form : ℕ → Request) (calls : List RoutedCall) (trail : List Attempt)
+    (server : ℕ) : Type 0 where
+  pub before : List RoutedCall
+  pub make : MakesTrail form before trail
   pub count : ℕ
   pub is : calls ≡ before ++ look_up server (reply.Up count) ∷ []
 
 -- health was asked or told more, and with that this is reached
 pub record GoesOn {H : Type 0} (steps : H → HealthItem → H → Type 0) (old : H)
-    (reached : List Call → Type 0) (new : H) : Type 0 where
+    (reached : List RoutedCall → Type 0) (new : H) : Type 0 where
   pub items : List HealthItem
   pub gains : Gains steps old items new
   pub is : reached (map Told items)
 
 -- what came of a send that was out, with the request in the form of its place
-abbrev pub came_of : (ℕ → Request) → Awaited → Outcome → Call
+abbrev pub came_of : (ℕ → Request) → Awaited → Outcome → RoutedCall
 came_of form waiting outcome =
     came waiting.server (form (length waiting.attempts)) (Ok outcome)
 
 -- the call that recorded what came of a send that was out, with its reply, if the table of outcomes
 -- names one
-abbrev pub told_of : Awaited → Outcome → Option Reply → List Call
+abbrev pub told_of : Awaited → Outcome → Option Reply → List RoutedCall
 told_of waiting outcome reply = map Told (record_of waiting.server (op_of outcome) reply)
 
 -- a request that had the form of one place has that of another
@@ -63,11 +63,11 @@ IsBrought exptime old new = (original : Request)
 
 -- how far a routing came by these calls: the next target was found up, and the permission names it;
 -- or a target answered, or all were tried
-abbrev pub Reached : List ℕ → (ℕ → Request) → List Call → Stage → Type 0
+abbrev pub Reached : List ℕ → (ℕ → Request) → List RoutedCall → Stage → Type 0
 Reached targets form calls (stage.Away clear waiting) =
     IsAwaited targets waiting × (clear ≡ waiting.server)
     × FindsUp form calls waiting.attempts waiting.server
-Reached targets form calls (stage.Done trail) = IsTrail targets trail × Makes form calls trail
+Reached targets form calls (stage.Done trail) = IsTrail targets trail × MakesTrail form calls trail
 
 -- how many attempts there are
 abbrev pub tries : Stage → ℕ

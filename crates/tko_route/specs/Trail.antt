@@ -14,7 +14,7 @@ use Rattle.tko_links.specs.declared.links.Outcome.TheVariants as outcome
 use Rattle.tko_route.specs.declared.attempt.Attempt.{Attempt}
 use Rattle.tko_route.specs.declared.attempt.Attempt.TheVariants as attempt
 use Rattle.tko_links.specs.Links.{part_of}
-use Rattle.tko_route.specs.Calls.{Upstream, Call, Does, Told, came, look_up}
+use Rattle.tko_route.specs.Calls.{Upstream, RoutedCall, DoesCall, Told, came, look_up}
 
 -- the table of outcomes: the operation that records each
 abbrev pub op_of : Outcome → Option Op
@@ -127,7 +127,7 @@ record_of server None reply = []
 -- the calls of one attempt: a look-up that found that mark; or one that found the server up, then
 -- the exchange, then the call that the table of outcomes names; or one that found the server up,
 -- and an exchange that was aborted, or that sent nothing, since the server's count is used up
-abbrev pub IsAttempt : Request → List Call → Attempt → Type 0
+abbrev pub IsAttempt : Request → List RoutedCall → Attempt → Type 0
 IsAttempt request calls (attempt.Skipped server mark) =
     calls ≡ look_up server (reply.Marked mark) ∷ []
 IsAttempt request calls (attempt.Sent server got answer) =
@@ -159,20 +159,22 @@ placed_from place (it ∷ trail) =
     record { place = place; attempt = it } ∷ placed_from (suc place) trail
 
 -- an attempt adds its calls to those before, with the request in the form of its place
-abbrev pub Adds : (ℕ → Request) → List Call → Placed → List Call → Type 0
-Adds form before it after =
-    (calls : List Call) × IsAttempt (form it.place) calls it.attempt × (after ≡ before ++ calls)
+abbrev pub AddsAttempt : (ℕ → Request) → List RoutedCall → Placed → List RoutedCall → Type 0
+AddsAttempt form before it after =
+    (calls : List RoutedCall) × IsAttempt (form it.place) calls it.attempt
+    × (after ≡ before ++ calls)
 
 -- these calls are those of the attempts of a trail, from the first target of the list on
-pub record Makes (form : ℕ → Request) (calls : List Call) (trail : List Attempt) : Type 0 where
-  pub adds : Gains (Adds form) [] (placed_from 0 trail) calls
+pub record MakesTrail (form : ℕ → Request) (calls : List RoutedCall) (trail : List Attempt)
+    : Type 0 where
+  pub adds : Gains (AddsAttempt form) [] (placed_from 0 trail) calls
 
 module _ {H L : Type 0} (upstream : Upstream H L) (form : ℕ → Request) where
   -- the attempts of a trail were made at the servers, with the request in the form of each place
   pub record Attempts (old : H × L) (trail : List Attempt) (new : H × L) : Type 0 where
-    pub calls : List Call
-    pub make : Makes form calls trail
-    pub gains : Gains (Does upstream) old calls new
+    pub calls : List RoutedCall
+    pub make : MakesTrail form calls trail
+    pub gains : Gains (DoesCall upstream) old calls new
 
 -- memory ran out before the first attempt
 pub record NothingDone {S : Type 0} (old : S) (trail : List Attempt) (sent : Bool) (new : S)
@@ -194,12 +196,12 @@ module _ {H L : Type 0} (upstream : Upstream H L) (targets : List ℕ) (form : �
   -- exchange with it, which sent the request or did not
   pub record RanShort (old : H × L) (trail : List Attempt) (sent : Bool) (new : H × L)
       : Type 0 where
-    pub calls : List Call
-    pub make : Makes form calls trail
+    pub calls : List RoutedCall
+    pub make : MakesTrail form calls trail
     pub server : ℕ
     pub is_next : server ≡ next_target targets trail
     pub count : ℕ
-    pub gains : Gains (Does upstream) old
+    pub gains : Gains (DoesCall upstream) old
         (calls ++ look_up server (reply.Up count)
         ∷ came server (form (length trail)) (Err (record { sent = sent })) ∷ [])
         new

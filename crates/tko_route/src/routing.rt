@@ -2,12 +2,12 @@
 //! a record of an outcome may wait for a lock of the health.
 //!
 //! - `Stage`: how far a routing came. `begin` looks for the first server that is up.
-//! - `Waiting`: a request was sent. `answered` records what came of it, and goes on; `recorded` goes
-//!   on where a call that other requests share recorded it.
+//! - `Waiting`: a request was sent. `answered` records what came of it, and goes on; `recorded`
+//!   goes on where a call that other requests share recorded it.
 ghost use Rattle.std.specs.Prelude.{◌≡◌, ◌+◌, ◌-◌, ◌<◌, ◌≤◌, ◌∷◌, ◌++◌, ℕ, All, IfOk, List, OnErr, length, vec_capacity};
-ghost use Rattle.tko_route.specs.Calls.{Call};
+ghost use Rattle.tko_route.specs.Calls.{RoutedCall};
 ghost use Rattle.tko_route.specs.Routing.{FindsUp, GoesOn, IsAwaited, IsBrought, IsTried, Reached, came_of, last_place, tries};
-ghost use Rattle.tko_route.specs.Trail.{Makes, form_at};
+ghost use Rattle.tko_route.specs.Trail.{MakesTrail, form_at};
 ghost use Rattle.tko_text.specs.SentRequests.{without_noreply};
 ghost use Rattle.tko_text.specs.declared.request.Request.{Request};
 
@@ -109,7 +109,8 @@ impl Waiting {
     ) -> Stage
         requires health { All (λ target. target < H.servers health.old) targets.now }
         requires awaited { IsAwaited targets.now self }
-        ensures calls { GoesOn H.steps health.old (λ more. (form : ℕ → Request) (calls : List Call)
+        ensures calls { GoesOn H.steps health.old (λ more.
+            (form : ℕ → Request) (calls : List RoutedCall)
             → FindsUp form calls self.attempts self.server
             → Reached targets.now form (calls ++ came_of form self outcome ∷ more) result)
             health.new }
@@ -123,7 +124,7 @@ impl Waiting {
     }
 
     /// Ends the routing where memory ran out at the send.
-    pub fn stop(self, fault: tko_links::NoMemory) -> RouteFault
+    pub fn stop(self, fault: tko_links::ExchangeNoMemory) -> RouteFault
         ensures trail { result.trail ≡ self.attempts }
         ensures sent { result.sent ≡ fault.sent }
     {
@@ -158,7 +159,8 @@ fn look_on<R: Wait, H: Health>(
     requires room { length targets.now ≤ vec_capacity attempts }
     requires tried { IsTried targets.now attempts.items }
     ensures calls { GoesOn H.steps health.old
-        (λ more. (form : ℕ → Request) (calls : List Call) → Makes form calls attempts.items
+        (λ more. (form : ℕ → Request) (calls : List RoutedCall)
+        → MakesTrail form calls attempts.items
         → Reached targets.now form (calls ++ more) result) health.new }
     ensures request { IsBrought exptime (request.old, length attempts.items - 1)
         (request.new, last_place result) }

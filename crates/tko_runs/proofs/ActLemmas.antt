@@ -11,7 +11,7 @@ use Rattle.tko_steps.specs.declared.phase.Phase.TheVariants.{Start, Read, AtThre
 use Rattle.tko_steps.specs.declared.phase.Phase.TheVariants.{Reserving, Holding, Firming, Losing}
 use Rattle.tko_steps.specs.declared.phase.Phase.TheVariants.{Loosening, Loosened, Emptied}
 use Rattle.tko_steps.specs.declared.phase.ThreadState.TheVariants.{InCall}
-use Rattle.tko_steps.specs.Core.{CoreState, abstract_of, number_of, thread_at, slots_at}
+use Rattle.tko_steps.specs.Core.{CoreState, abstract_of, drawn_number, thread_at, slots_at}
 use Rattle.tko_steps.specs.Invariant.{IsCore, held_at}
 use Rattle.tko_steps.specs.Table.{action_of, same_slots}
 use Rattle.tko_steps.proofs.CoreLemmas.{group-there}
@@ -36,7 +36,7 @@ module _ (core : CoreState) (thread : ℕ) (call : Call) (is : IsCore core)
       → call.number < core.settings.threads
   number-low phase stands =
       let drawn = number-lt core.threads core.shared.enrolled thread call.number is.numbers inside
-      (ap number_of stands) in
+      (ap drawn_number stands) in
       omega (arith, drawn, enrolled-le core is)
 
   pub acts : (phase : Phase) → thread_at core thread ≡ InCall call phase

@@ -6,7 +6,7 @@ use Rattle.std.proofs.lemmas.List.{get_or-set_same, get_or_past}
 use Rattle.tko_model.specs.Ranges.{IsWithinRanges}
 use Rattle.tko_runs.specs.declared.schedule.command.Command.TheVariants as command
 use Rattle.tko_runs.specs.Limits.{max_steps}
-use Rattle.tko_runs.specs.Plays.{Played, RunsToAnswers, after_all, after_commands, after_turn}
+use Rattle.tko_runs.specs.Plays.{Played, RunsToAnswers, after_all_turns, after_commands, after_turn}
 use Rattle.tko_runs.specs.Plays.{enrolled, steps_to_answer}
 use Rattle.tko_runs.specs.Schedules.{Plan}
 use Rattle.tko_runs.proofs.PlayLemmas.{IsRun-played, after_commands-push}
@@ -14,7 +14,7 @@ use Rattle.tko_steps.specs.declared.phase.ThreadState.{ThreadState}
 use Rattle.tko_steps.specs.declared.phase.ThreadState.TheVariants.{NotEnrolled, Idle, InCall}
 use Rattle.tko_steps.specs.Core.{CoreState, after_act, after_step, after_step_from, follows}
 use Rattle.tko_steps.specs.Core.{has_call, thread_at}
-use Rattle.tko_steps.specs.Steps.{state_after}
+use Rattle.tko_steps.specs.Steps.{decided_state}
 use Rattle.tko_steps.specs.Invariant.{IsCore}
 use Rattle.tko_steps.specs.Runs.{Step}
 use Rattle.tko_steps.proofs.PhaseStepLemmas.{IsCore-after_act, knows_at}
@@ -49,35 +49,35 @@ sees_call p q thread is found tested =
 -- a step of a thread with a call
 pub run-more : (p new all : Played) (thread k : ℕ) → k < max_steps
     → has_call (thread_at p.core thread) ≡ true
-    → new ≡ after_all p (replicate 1 (Step thread))
-    → after_all p (replicate (steps_to_answer (max_steps - k) p.core thread) (Step thread)) ≡ all
-    → after_all new (replicate (steps_to_answer (max_steps - (k + 1)) new.core thread)
+    → new ≡ after_all_turns p (replicate 1 (Step thread))
+    → after_all_turns p (replicate (steps_to_answer (max_steps - k) p.core thread) (Step thread)) ≡ all
+    → after_all_turns new (replicate (steps_to_answer (max_steps - (k + 1)) new.core thread)
     (Step thread)) ≡ all
 run-more p new all thread k low calls stepped is =
     let one : max_steps - k ≡ suc (max_steps - (k + 1)) = omega (arith, low) in
     let steps = ap (λ most. steps_to_answer most p.core thread) one
     ∙ steps_to_answer-more (max_steps - (k + 1)) p.core thread calls in
     let rest : Played → Played = λ q.
-    after_all q (replicate (steps_to_answer (max_steps - (k + 1)) q.core thread) (Step thread)) in
+    after_all_turns q (replicate (steps_to_answer (max_steps - (k + 1)) q.core thread) (Step thread)) in
     ap rest stepped
-    ∙ sym (ap (λ n. after_all p (replicate n (Step thread))) steps)
+    ∙ sym (ap (λ n. after_all_turns p (replicate n (Step thread))) steps)
     ∙ is
 
 -- a thread whose call is answered
 pub run-answered : (p all : Played) (thread most : ℕ) → has_call (thread_at p.core thread) ≡ false
-    → after_all p (replicate (steps_to_answer most p.core thread) (Step thread)) ≡ all → p ≡ all
+    → after_all_turns p (replicate (steps_to_answer most p.core thread) (Step thread)) ≡ all → p ≡ all
 run-answered p all thread most none is =
-    sym (ap (λ n. after_all p (replicate n (Step thread)))
+    sym (ap (λ n. after_all_turns p (replicate n (Step thread)))
     (steps_to_answer-none most p.core thread none)) ∙ is
 
 -- as many steps as there may be
 pub run-most : (p all : Played) (thread k : ℕ) → max_steps ≤ k
-    → after_all p (replicate (steps_to_answer (max_steps - k) p.core thread) (Step thread)) ≡ all
+    → after_all_turns p (replicate (steps_to_answer (max_steps - k) p.core thread) (Step thread)) ≡ all
     → p ≡ all
 unfolding steps_to_answer
 run-most p all thread k high is =
     let none : max_steps - k ≡ 0 = omega (arith, high) in
-    sym (ap (λ most. after_all p (replicate (steps_to_answer most p.core thread)
+    sym (ap (λ most. after_all_turns p (replicate (steps_to_answer most p.core thread)
     (Step thread))) none) ∙ is
 
 -- A thread that takes steps until its call is answered.
@@ -106,7 +106,7 @@ ahead-from core thread NotEnrolled is inside stands calls = cc
 ahead-from core thread (Idle number) is inside stands calls = cc
 ahead-from core thread (InCall call phase) is inside stands calls =
     let tries = (knows_at core thread call is inside phase stands).1 in
-    let new = state_after call (follows core call phase) in
+    let new = decided_state call (follows core call phase) in
     let there : thread_at (after_act core thread call phase) thread ≡ new =
     get_or-set_same core.threads thread new NotEnrolled inside in
     record {
@@ -141,7 +141,7 @@ after_steps : ℕ → CoreState → ℕ → CoreState
 after_steps zero core thread = core
 after_steps (suc n) core thread = after_steps n (after_step core thread) thread
 
-core-after_all : (p : Played) (thread n : ℕ) → (after_all p (replicate n (Step thread))).core
+core-after_all : (p : Played) (thread n : ℕ) → (after_all_turns p (replicate n (Step thread))).core
     ≡ after_steps n p.core thread
 unfolding after_steps
 core-after_all p thread zero = refl

@@ -11,8 +11,8 @@ use Rattle.tko_runs.specs.declared.run.state.ThreadEntry.{ThreadEntry}
 use Rattle.tko_runs.specs.declared.run.state.ThreadEntry.TheVariants.{NotEnrolled, Idle, InCall}
 use Rattle.tko_runs.specs.States.{answered}
 use Rattle.tko_runs.specs.CheckStates.{AreKept, IsLatest, latest_place}
-use Rattle.tko_runs.specs.Effects.{IsKept}
-use Rattle.tko_steps.specs.Runs.{Call, OwnStep, and_step, begun_call, with_step}
+use Rattle.tko_runs.specs.Effects.{IsCallKept}
+use Rattle.tko_steps.specs.Runs.{OwnStep, RunCall, and_step, begun_call, with_step}
 
 -- Lists that are read from both ends.
 
@@ -44,14 +44,14 @@ get_reversed xs newer older x y place split at_end =
 
 -- What is kept.
 
-pub length-AreKept : (s : Settings) (calls : List Call) (kept : List CheckedCall) → AreKept s calls kept
+pub length-AreKept : (s : Settings) (calls : List RunCall) (kept : List CheckedCall) → AreKept s calls kept
     → length calls ≡ length kept
 length-AreKept s [] [] all = refl
 length-AreKept s [] (own ∷ kept) all = absurd all
 length-AreKept s (call ∷ calls) [] all = absurd all
 length-AreKept s (call ∷ calls) (own ∷ kept) all = ap suc (length-AreKept s calls kept all.1)
 
-AreKept-append : (s : Settings) (calls others : List Call) (kept rest : List CheckedCall) → AreKept s calls kept
+AreKept-append : (s : Settings) (calls others : List RunCall) (kept rest : List CheckedCall) → AreKept s calls kept
     → AreKept s others rest → AreKept s (calls ++ others) (kept ++ rest)
 AreKept-append s [] others [] rest all more = more
 AreKept-append s [] others (own ∷ kept) rest all more = absurd all
@@ -59,7 +59,7 @@ AreKept-append s (call ∷ calls) others [] rest all more = absurd all
 AreKept-append s (call ∷ calls) others (own ∷ kept) rest all more =
     (all.0, AreKept-append s calls others kept rest all.1 more)
 
-pub AreKept-reverse : (s : Settings) (calls : List Call) (kept : List CheckedCall) → AreKept s calls kept
+pub AreKept-reverse : (s : Settings) (calls : List RunCall) (kept : List CheckedCall) → AreKept s calls kept
     → AreKept s (reverse calls) (reverse kept)
 AreKept-reverse s [] [] all = tt
 AreKept-reverse s [] (own ∷ kept) all = absurd all
@@ -71,19 +71,19 @@ AreKept-reverse s (call ∷ calls) (own ∷ kept) all =
 -- The latest call of a thread.
 
 -- where it stands, and what one more step of it makes of the calls
-pub record HasLatest (s : Settings) (calls : List Call) (kept : List CheckedCall) (thread place : ℕ) : Type 0 where
-  pub call : Call
+pub record HasLatest (s : Settings) (calls : List RunCall) (kept : List CheckedCall) (thread place : ℕ) : Type 0 where
+  pub call : RunCall
   pub own : CheckedCall
   pub newer : List CheckedCall
   pub older : List CheckedCall
   pub split : kept ≡ newer ++ own ∷ older
   pub place_is : place ≡ length older
-  pub is_kept : IsKept s call own
-  pub next : (step : OwnStep) (now : CheckedCall) → step.step.thread ≡ thread → IsKept s (and_step call step) now
+  pub is_kept : IsCallKept s call own
+  pub next : (step : OwnStep) (now : CheckedCall) → step.step.thread ≡ thread → IsCallKept s (and_step call step) now
       → AreKept s (with_step step calls) (newer ++ now ∷ older)
 
-has_latest_either : (s : Settings) (call : Call) (calls : List Call) (own : CheckedCall) (kept : List CheckedCall) (thread place : ℕ)
-    (test : Bool) → eqb call.thread thread ≡ test → IsKept s call own → AreKept s calls kept
+has_latest_either : (s : Settings) (call : RunCall) (calls : List RunCall) (own : CheckedCall) (kept : List CheckedCall) (thread place : ℕ)
+    (test : Bool) → eqb call.thread thread ≡ test → IsCallKept s call own → AreKept s calls kept
     → (latest_place thread calls ≡ Some place → HasLatest s calls kept thread place)
     → cond test (Some (length calls)) (latest_place thread calls) ≡ Some place
     → HasLatest s (call ∷ calls) (own ∷ kept) thread place
@@ -112,7 +112,7 @@ has_latest_either s call calls own kept thread place false mine keeps all others
       next = λ step now same is. rw (ap (eqb call.thread) same ∙ mine) (keeps, rest.next step now same is);
     }
 
-pub has_latest : (s : Settings) (calls : List Call) (kept : List CheckedCall) (thread place : ℕ) → AreKept s calls kept
+pub has_latest : (s : Settings) (calls : List RunCall) (kept : List CheckedCall) (thread place : ℕ) → AreKept s calls kept
     → latest_place thread calls ≡ Some place → HasLatest s calls kept thread place
 has_latest s [] kept thread place all found = cc
 has_latest s (call ∷ calls) [] thread place all found = absurd all
@@ -120,31 +120,31 @@ has_latest s (call ∷ calls) (own ∷ kept) thread place all found =
     has_latest_either s call calls own kept thread place (eqb call.thread thread) refl all.0 all.1
     (has_latest s calls kept thread place all.1) found
 
-length-with_step_either : (own : OwnStep) (call : Call) (calls rest : List Call) (test : Bool) → length rest ≡ length calls
+length-with_step_either : (own : OwnStep) (call : RunCall) (calls rest : List RunCall) (test : Bool) → length rest ≡ length calls
     → length (cond test (and_step call own ∷ calls) (call ∷ rest)) ≡ length (call ∷ calls)
 length-with_step_either own call calls rest true same = refl
 length-with_step_either own call calls rest false same = ap suc same
 
-length-with_step : (own : OwnStep) (calls : List Call) → length (with_step own calls) ≡ length calls
+length-with_step : (own : OwnStep) (calls : List RunCall) → length (with_step own calls) ≡ length calls
 length-with_step own [] = refl
 length-with_step own (call ∷ calls) =
     length-with_step_either own call calls (with_step own calls) (eqb call.thread own.step.thread) (length-with_step own calls)
 
-latest_place_either : (own : OwnStep) (call : Call) (calls rest : List Call) (thread : ℕ) (test : Bool)
+latest_place_either : (own : OwnStep) (call : RunCall) (calls rest : List RunCall) (thread : ℕ) (test : Bool)
     → length rest ≡ length calls → latest_place thread rest ≡ latest_place thread calls
     → latest_place thread (cond test (and_step call own ∷ calls) (call ∷ rest)) ≡ latest_place thread (call ∷ calls)
 latest_place_either own call calls rest thread true long same = refl
 latest_place_either own call calls rest thread false long same = rw (long, same) refl
 
 -- a step leaves the places as they were
-pub latest_place-with_step : (own : OwnStep) (calls : List Call) (thread : ℕ)
+pub latest_place-with_step : (own : OwnStep) (calls : List RunCall) (thread : ℕ)
     → latest_place thread (with_step own calls) ≡ latest_place thread calls
 latest_place-with_step own [] thread = refl
 latest_place-with_step own (call ∷ calls) thread =
     latest_place_either own call calls (with_step own calls) thread (eqb call.thread own.step.thread)
     (length-with_step own calls) (latest_place-with_step own calls thread)
 
-with_step_none_either : (own : OwnStep) (call : Call) (calls : List Call) (test : Bool)
+with_step_none_either : (own : OwnStep) (call : RunCall) (calls : List RunCall) (test : Bool)
     → (latest_place own.step.thread calls ≡ None → with_step own calls ≡ calls)
     → cond test (Some (length calls)) (latest_place own.step.thread calls) ≡ None
     → cond test (and_step call own ∷ calls) (call ∷ with_step own calls) ≡ call ∷ calls
@@ -152,7 +152,7 @@ with_step_none_either own call calls true others none = cc
 with_step_none_either own call calls false others none = ap (λ rest. call ∷ rest) (others none)
 
 -- a step of a thread that began no call changes no call
-pub with_step-no_call : (own : OwnStep) (calls : List Call) → latest_place own.step.thread calls ≡ None
+pub with_step-no_call : (own : OwnStep) (calls : List RunCall) → latest_place own.step.thread calls ≡ None
     → with_step own calls ≡ calls
 with_step-no_call own [] none = refl
 with_step-no_call own (call ∷ calls) none =
@@ -160,12 +160,12 @@ with_step-no_call own (call ∷ calls) none =
 
 -- Where the threads stand.
 
-abbrev pub AllLatest : List ThreadEntry → List Call → List ℕ → Type 0
+abbrev pub AllLatest : List ThreadEntry → List RunCall → List ℕ → Type 0
 AllLatest threads calls places =
     (thread : ℕ) → IsLatest (get_or threads thread NotEnrolled) (latest_place thread calls) (get_or places thread 0)
 
 -- a thread stands elsewhere, and has the same latest call
-pub AllLatest-set : (threads : List ThreadEntry) (thread : ℕ) (new : ThreadEntry) (calls others : List Call) (places : List ℕ)
+pub AllLatest-set : (threads : List ThreadEntry) (thread : ℕ) (new : ThreadEntry) (calls others : List RunCall) (places : List ℕ)
     → thread < length threads → ((other : ℕ) → latest_place other others ≡ latest_place other calls)
     → IsLatest new (latest_place thread calls) (get_or places thread 0)
     → AllLatest threads calls places → AllLatest (set threads thread new) others places
@@ -181,12 +181,12 @@ AllLatest-set threads thread new calls others places inside same stands all othe
 
 -- a thread began a call
 pub AllLatest-begun : (threads : List ThreadEntry) (thread number : ℕ) (op : Op) (server : ℕ) (new : ThreadEntry)
-    (calls : List Call) (places : List ℕ)
+    (calls : List RunCall) (places : List ℕ)
     → thread < length threads → thread < length places → IsLatest new (Some (length calls)) (length calls)
     → AllLatest threads calls places
     → AllLatest (set threads thread new) (begun_call thread number op server ∷ calls) (set places thread (length calls))
 AllLatest-begun threads thread number op server new calls places inside is_place stands all other =
-    let call : Call = begun_call thread number op server in
+    let call : RunCall = begun_call thread number op server in
     let now = set threads thread new in
     let moved = set places thread (length calls) in
     ⊎_elim

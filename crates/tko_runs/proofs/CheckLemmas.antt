@@ -11,7 +11,7 @@ use Rattle.tko_runs.specs.declared.run.event.Event.{Event}
 use Rattle.tko_runs.specs.declared.run.event.Event.TheVariants.{Begin}
 use Rattle.tko_runs.specs.declared.checking.order.Point.{Point}
 use Rattle.tko_runs.specs.States.{AllCome, Claimed, IsRunData, RunState, calls_in, claimed, moment_of, opened_state, state_after}
-use Rattle.tko_runs.specs.CheckStates.{AreIn, AreJudged, AreKept, HasEntered, IsCheckOf, IsOpened, IsIllegalFault, IsRefusalFault}
+use Rattle.tko_runs.specs.CheckStates.{AreIn, AreJudged, AreKept, HasEntered, IsCheckOf, IsCheckOpened, IsIllegalFault, IsRefusalFault}
 use Rattle.tko_runs.specs.Orders.{AllFollow, Follows, IsLegalRun, IsOrder, IsRunFault}
 use Rattle.tko_runs.specs.Runs.{RunData}
 use Rattle.tko_steps.specs.Runs.{calls_of}
@@ -20,7 +20,7 @@ use Rattle.tko_runs.proofs.EventLemmas.{AllFollow-claimed_push, claimed-push, st
 
 -- The loop over the events.
 
-pub AreIn-opened : (run : RunData) (d : CheckState) → IsRunData run → IsOpened run.settings d
+pub AreIn-opened : (run : RunData) (d : CheckState) → IsRunData run → IsCheckOpened run.settings d
     → AreIn run.settings run.events run.events d
 unfolding claimed
 AreIn-opened run d is opened =

@@ -6,28 +6,28 @@ use Rattle.tko_model.specs.declared.mark.Reply.{Reply}
 use Rattle.tko_model.specs.Settings.{Settings}
 use Rattle.tko_model.specs.declared.state.ServerState.{ServerState}
 use Rattle.tko_model.specs.Tracker.{server_at}
-use Rattle.tko_runs.specs.declared.checking.calls.Calls.{Calls}
+use Rattle.tko_runs.specs.declared.checking.calls.CheckedCalls.{CheckedCalls}
 use Rattle.tko_runs.specs.declared.checking.point.CheckedCall.{CheckedCall}
 use Rattle.tko_runs.specs.declared.checking.state.CheckState.{CheckState}
 use Rattle.tko_runs.specs.declared.run.event.Event.{Event}
 use Rattle.tko_runs.specs.declared.run.event.Event.TheVariants.{Begin, Step}
-use Rattle.tko_runs.specs.States.{CanCome, HasCall, RunState, entry_at, moment_of, number_of, state_after, written, wrote}
+use Rattle.tko_runs.specs.States.{CanCome, HasCall, RunState, entry_at, entry_number, moment_of, servers_written, state_after, wrote}
 use Rattle.tko_runs.specs.CheckStates.{AllValid, HasBegun, HasEntered, HasFollowed, IsCheckOf}
-use Rattle.tko_runs.specs.Words.{CanLeave, CanLeaveServer, IsValid, Room, room_at}
-use Rattle.tko_steps.specs.declared.step.Kind.{Kind}
-use Rattle.tko_steps.specs.declared.step.Kind.TheVariants as kind
+use Rattle.tko_runs.specs.Words.{CanLeave, CanLeaveServer, GroupLimits, IsValid, room_at}
+use Rattle.tko_steps.specs.declared.step.StepKind.{StepKind}
+use Rattle.tko_steps.specs.declared.step.StepKind.TheVariants as kind
 use Rattle.tko_steps.specs.declared.step.Place.{Place}
 use Rattle.tko_steps.specs.declared.step.Place.TheVariants as place
 use Rattle.tko_steps.specs.declared.step.Word.{Word}
 use Rattle.tko_steps.specs.declared.step.Word.TheVariants as word
 use Rattle.tko_steps.specs.Core.{is_call_step, word_at}
-use Rattle.tko_steps.specs.Runs.{Moment, StepTaken, count_of, steps_in}
+use Rattle.tko_steps.specs.Runs.{Moment, StepTaken, step_count_of, steps_in}
 use Rattle.tko_runs.proofs.KeptLemmas.{AreCalls-begun, AreCalls-enrolled, AreCalls-stepped, IsEffect-shown, latest_inside}
 
 -- Valid words.
 
 -- what a step leaves of a valid word is a valid word
-left-valid : (s : Settings) (held : ℕ) (by : Kind) (found left : ServerState) → CanLeaveServer s held by found left
+left-valid : (s : Settings) (held : ℕ) (by : StepKind) (found left : ServerState) → CanLeaveServer s held by found left
     → IsValid s found → IsValid s left
 left-valid s held kind.Look found left can valid = subst (IsValid s) (sym can) valid
 left-valid s held kind.Count found left (inl same) valid = subst (IsValid s) (sym same) valid
@@ -40,9 +40,9 @@ left-valid s held kind.Shift found left can valid = absurd can
 left-valid s held kind.Give found left can valid = absurd can
 left-valid s held kind.Enrol found left can valid = absurd can
 
-written-valid : (s : Settings) (room : Room) (servers : List ServerState) (by : Kind) (at : Place) (found left : Word)
+written-valid : (s : Settings) (room : GroupLimits) (servers : List ServerState) (by : StepKind) (at : Place) (found left : Word)
     → AllValid s servers → ((server : ℕ) → at ≡ place.Server server → (server < length servers) × (found ≡ word.Server (server_at servers server)))
-    → CanLeave s room by found left → AllValid s (written servers at left)
+    → CanLeave s room by found left → AllValid s (servers_written servers at left)
 written-valid s room servers by (place.Server server) (word.Server found) (word.Server left) valid finds can =
     let here = finds server refl in
     let same : found ≡ server_at servers server = cc here.1 in
@@ -57,9 +57,9 @@ written-valid s room servers by place.Enrolment found left valid finds can = val
 
 -- The three kinds of events.
 
-IsCheckOf-begun : (past : List Moment) (old : CheckState) (thread : ℕ) (op : Op) (server : ℕ) (calls : Calls) → IsCheckOf past old
+IsCheckOf-begun : (past : List Moment) (old : CheckState) (thread : ℕ) (op : Op) (server : ℕ) (calls : CheckedCalls) → IsCheckOf past old
     → CanCome old.run (Begin thread op server)
-    → HasBegun old.calls thread (number_of (entry_at old.run thread)) op server calls
+    → HasBegun old.calls thread (entry_number (entry_at old.run thread)) op server calls
     → IsCheckOf (moment_of old.run (Begin thread op server) ∷ past)
     (record old { run = state_after old.run (Begin thread op server); calls = calls })
 IsCheckOf-begun past old thread op server calls is come begun =
@@ -67,17 +67,17 @@ IsCheckOf-begun past old thread op server calls is come begun =
       settings = is.settings;
       valid = is.valid;
       steps = is.steps;
-      calls = AreCalls-begun old.settings old.run past old.calls calls thread (number_of (entry_at old.run thread)) op server
+      calls = AreCalls-begun old.settings old.run past old.calls calls thread (entry_number (entry_at old.run thread)) op server
           is.calls begun come.0.0 come.1 come.0.1;
     }
 
-pub enters_begun : (old : CheckState) (event : Event) (run : RunState) (thread number : ℕ) (op : Op) (server : ℕ) (calls : Calls)
+pub enters_begun : (old : CheckState) (event : Event) (run : RunState) (thread number : ℕ) (op : Op) (server : ℕ) (calls : CheckedCalls)
     → event ≡ Begin thread op server → CanCome old.run event
-    → number ≡ number_of (entry_at old.run thread) → HasBegun old.calls thread number op server calls
+    → number ≡ entry_number (entry_at old.run thread) → HasBegun old.calls thread number op server calls
     → run ≡ state_after old.run event → HasEntered old event (record old { run = run; calls = calls })
 enters_begun old event run thread number op server calls is come drawn begun now =
     let can : CanCome old.run (Begin thread op server) = rw is at come in
-    let has : HasBegun old.calls thread (number_of (entry_at old.run thread)) op server calls = rw drawn at begun in
+    let has : HasBegun old.calls thread (entry_number (entry_at old.run thread)) op server calls = rw drawn at begun in
     rw (now, is)
     (record {
       settings = refl;
@@ -87,7 +87,7 @@ enters_begun old event run thread number op server calls is come drawn begun now
     })
 
 -- what happened at a step
-abbrev taken : RunState → ℕ → Kind → Place → Word → Word → Option Reply → List ServerState → StepTaken
+abbrev taken : RunState → ℕ → StepKind → Place → Word → Word → Option Reply → List ServerState → StepTaken
 taken run thread by at found left answer after =
     record {
       thread = thread;
@@ -101,7 +101,7 @@ taken run thread by at found left answer after =
       after = after;
     }
 
-pub enters_enrolled : (old : CheckState) (event : Event) (run : RunState) (thread : ℕ) (by : Kind) (at : Place) (found left : Word) (answer : Option Reply)
+pub enters_enrolled : (old : CheckState) (event : Event) (run : RunState) (thread : ℕ) (by : StepKind) (at : Place) (found left : Word) (answer : Option Reply)
     → event ≡ Step thread by at found left answer → is_call_step by ≡ false → CanCome old.run event
     → run ≡ state_after old.run event → HasEntered old event (record old { run = run })
 enters_enrolled old event run thread kind.Look at found left answer is enrols come now = cc
@@ -132,18 +132,18 @@ finds-server : (run : RunState) (at : Place) (found : Word) (server : ℕ) → f
     → at ≡ place.Server server → found ≡ word.Server (server_at run.words.servers server)
 finds-server run at found server finds there = rw there at finds
 
-IsCheckOf-followed : (past : List Moment) (old mid : CheckState) (thread : ℕ) (by : Kind) (at : Place) (found left : Word) (answer : Option Reply)
+IsCheckOf-followed : (past : List Moment) (old mid : CheckState) (thread : ℕ) (by : StepKind) (at : Place) (found left : Word) (answer : Option Reply)
     → IsCheckOf past old → is_call_step by ≡ true
     → CanCome old.run (Step thread by at found left answer)
     → HasFollowed old thread by at found left answer mid
     → IsCheckOf (moment_of old.run (Step thread by at found left answer) ∷ past)
     (record mid { run = state_after mid.run (Step thread by at found left answer) })
 IsCheckOf-followed past old mid thread by at found left answer is steps come did =
-    let after = written old.run.words.servers at left in
+    let after = servers_written old.run.words.servers at left in
     let step = taken old.run thread by at found left answer after in
     let can = rw steps at come in
-    let one : 1 ≡ count_of by = ap (λ (t : Bool). cond t 1 0) (sym steps) in
-    let number : old.steps + 1 ≡ steps_in past + count_of by = ap (λ n. n + 1) is.steps ∙ ap (λ n. steps_in past + n) one in
+    let one : 1 ≡ step_count_of by = ap (λ (t : Bool). cond t 1 0) (sym steps) in
+    let number : old.steps + 1 ≡ steps_in past + step_count_of by = ap (λ n. n + 1) is.steps ∙ ap (λ n. steps_in past + n) one in
     rw (did.settings, did.run, steps) (record {
       settings = is.settings;
       valid = written-valid old.settings (room_at old.settings old.run.words.slots at) old.run.words.servers by at found left is.valid
@@ -155,7 +155,7 @@ IsCheckOf-followed past old mid thread by at found left answer is steps come did
           (did.numbered ∙ number) kept.number kept.op kept.server refl refl);
     })
 
-pub enters_followed : (old mid : CheckState) (event : Event) (run : RunState) (thread : ℕ) (by : Kind) (at : Place) (found left : Word) (answer : Option Reply)
+pub enters_followed : (old mid : CheckState) (event : Event) (run : RunState) (thread : ℕ) (by : StepKind) (at : Place) (found left : Word) (answer : Option Reply)
     → event ≡ Step thread by at found left answer → is_call_step by ≡ true → CanCome old.run event
     → HasFollowed old thread by at found left answer mid
     → run ≡ state_after mid.run event → HasEntered old event (record mid { run = run })

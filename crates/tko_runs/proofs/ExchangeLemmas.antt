@@ -5,7 +5,7 @@ use Rattle.tko_model.specs.declared.mark.Mark.TheVariants.{Up, Soft, Hard}
 use Rattle.tko_model.specs.Settings.{Settings}
 use Rattle.tko_model.specs.declared.state.ServerState.{ServerState}
 use Rattle.tko_runs.specs.States.{same_word, wrote}
-use Rattle.tko_runs.specs.Words.{CanLeaveServer, IsExchange}
+use Rattle.tko_runs.specs.Words.{CanLeaveServer, IsWonExchange}
 use Rattle.tko_steps.specs.declared.step.Word.{Word}
 use Rattle.tko_steps.specs.Core.{owner_of, is_call_step}
 use Rattle.tko_steps.specs.Steps.{kind_of_exchange}
@@ -26,7 +26,7 @@ exchange-wrote (Soft a) new found left = refl
 exchange-wrote (Hard a) new found left = refl
 
 pub exchange-won : (s : Settings) (held : ℕ) (old new : Mark) (found left : ServerState)
-    → IsExchange s held (kind_of_exchange old new) found left
+    → IsWonExchange s held (kind_of_exchange old new) found left
     → CanLeaveServer s held (kind_of_exchange old new) found left
 exchange-won s held (Up a) (Up b) found left is = inr is
 exchange-won s held (Up a) (Soft b) found left is = inr is

@@ -9,7 +9,7 @@ use Rattle.tko_runs.specs.States.{Claimed, calls_in, claimed, claimed_after, cla
 use Rattle.tko_runs.specs.Orders.{AllFollow, Follows, IsFirstIllegal, IsFirstStray, IsLegalRun, IsRunFault}
 use Rattle.tko_runs.specs.Runs.{RunData}
 use Rattle.tko_steps.specs.Legal.{IsLegal}
-use Rattle.tko_steps.specs.Runs.{Call}
+use Rattle.tko_steps.specs.Runs.{RunCall}
 
 -- in events that all follow, each follows where it stands
 follows_at : (s : Settings) (claim : Claimed) (before : List Event) (event : Event) (after : List Event)
@@ -24,15 +24,15 @@ no_stray s events number follow is =
     let P : List Event → Type 0 = λ all. AllFollow s (opened_state s) all in
     is.strays (follows_at s (opened_claim s) is.before is.stray is.after (subst P is.split follow))
 
-legal_at : (s : Settings) (before : List Call) (call : Call) (after : List Call)
+legal_at : (s : Settings) (before : List RunCall) (call : RunCall) (after : List RunCall)
     → All (IsLegal s) (before ++ call ∷ after) → IsLegal s call
 legal_at s [] call after all = All-head (IsLegal s) call after all
 legal_at s (first ∷ before) call after all =
     legal_at s before call after (All-tail (IsLegal s) first (before ++ call ∷ after) all)
 
-no_illegal : (s : Settings) (calls : List Call) (number : ℕ) → All (IsLegal s) calls → IsFirstIllegal s calls number → ⊥
+no_illegal : (s : Settings) (calls : List RunCall) (number : ℕ) → All (IsLegal s) calls → IsFirstIllegal s calls number → ⊥
 no_illegal s calls number all is =
-    let P : List Call → Type 0 = λ every. All (IsLegal s) every in
+    let P : List RunCall → Type 0 = λ every. All (IsLegal s) every in
     is.not_legal (legal_at s is.before is.illegal is.after (subst P is.split all))
 
 pub memory_alone : (run : RunData) (told : RunFault) → IsLegalRun run → IsRunFault run told → told ≡ fault.Memory

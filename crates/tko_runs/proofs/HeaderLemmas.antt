@@ -5,12 +5,12 @@ use Rattle.std.proofs.lemmas.List.{drop-drop}
 use Rattle.tko_model.specs.Settings.{Settings, in_one_group}
 use Rattle.tko_runs.specs.declared.schedule.fault.ScheduleFault.{ScheduleFault}
 use Rattle.tko_runs.specs.declared.schedule.fault.ScheduleFault.TheVariants as fault
-use Rattle.tko_runs.specs.declared.schedule.header.Counts.{Counts}
+use Rattle.tko_runs.specs.declared.schedule.header.HeaderSettings.{HeaderSettings}
 use Rattle.tko_runs.specs.declared.version.Version.{Version}
 use Rattle.tko_runs.specs.declared.version.Version.TheVariants.{One, Two, Three}
 use Rattle.tko_runs.specs.Headers.{HasLine, LacksLine}
 use Rattle.tko_bytes.specs.Lines.{lines_of}
-use Rattle.tko_runs.specs.Schedules.{IsFault, counts_in, groups_in, header, header_number, header_numbers, in_field, one_group_in, settings_in, version_in, with_groups}
+use Rattle.tko_runs.specs.Schedules.{IsFault, counts_in, header, header_number, header_numbers, in_field, one_group_in, settings_in, several_groups_in, version_in, with_groups}
 use Rattle.tko_runs.specs.Versions.{header_lines}
 use Rattle.tko_bytes.specs.Fields.{fields_in}
 use Rattle.tko_runs.proofs.CommandLemmas.{lines_of-empty}
@@ -92,14 +92,14 @@ counts_in-rest text r1 r2 r3 servers threads failures one two three =
 
 -- Those of the first version.
 
-pub one_group_in-lacks1 : (counts : Counts) (text : List ℕ) (told : ScheduleFault)
+pub one_group_in-lacks1 : (counts : HeaderSettings) (text : List ℕ) (told : ScheduleFault)
     → LacksLine 5 (header_number (codes "limit")) text told
     → one_group_in counts (lines_of text) ≡ Err told
 unfolding one_group_in
 one_group_in-lacks1 counts text told bad =
     rw (bad.is, bad.bad) refl
 
-pub one_group_in-lacks2 : (counts : Counts) (text r1 : List ℕ) (limit : ℕ) (told : ScheduleFault)
+pub one_group_in-lacks2 : (counts : HeaderSettings) (text r1 : List ℕ) (limit : ℕ) (told : ScheduleFault)
     → HasLine (header_number (codes "limit")) text limit r1
     → LacksLine 6 (header_number (codes "tries")) r1 told
     → one_group_in counts (lines_of text) ≡ Err told
@@ -107,7 +107,7 @@ unfolding one_group_in
 one_group_in-lacks2 counts text r1 limit told one bad =
     rw (one.lines, one.is, bad.is, bad.bad) refl
 
-pub one_group_in-lacks3 : (counts : Counts) (text r1 r2 : List ℕ) (limit tries : ℕ) (told : ScheduleFault)
+pub one_group_in-lacks3 : (counts : HeaderSettings) (text r1 r2 : List ℕ) (limit tries : ℕ) (told : ScheduleFault)
     → HasLine (header_number (codes "limit")) text limit r1
     → HasLine (header_number (codes "tries")) r1 tries r2
     → LacksLine 7 (header_number (codes "stamp")) r2 told
@@ -116,7 +116,7 @@ unfolding one_group_in
 one_group_in-lacks3 counts text r1 r2 limit tries told one two bad =
     rw (one.lines, one.is, two.lines, two.is, bad.is, bad.bad) refl
 
-pub one_group_in-has : (counts : Counts) (text r1 r2 r3 : List ℕ) (limit tries stamp : ℕ)
+pub one_group_in-has : (counts : HeaderSettings) (text r1 r2 r3 : List ℕ) (limit tries stamp : ℕ)
     → HasLine (header_number (codes "limit")) text limit r1
     → HasLine (header_number (codes "tries")) r1 tries r2
     → HasLine (header_number (codes "stamp")) r2 stamp r3
@@ -135,47 +135,47 @@ one_group_in-rest text r1 r2 r3 limit tries stamp one two three =
 
 -- Those of the others.
 
-pub groups_in-lacks1 : (counts : Counts) (text : List ℕ) (told : ScheduleFault)
+pub groups_in-lacks1 : (counts : HeaderSettings) (text : List ℕ) (told : ScheduleFault)
     → LacksLine 5 (header_numbers (codes "limits")) text told
-    → groups_in counts (lines_of text) ≡ Err told
-unfolding groups_in
+    → several_groups_in counts (lines_of text) ≡ Err told
+unfolding several_groups_in
 groups_in-lacks1 counts text told bad =
     rw (bad.is, bad.bad) refl
 
-pub groups_in-lacks2 : (counts : Counts) (text r1 : List ℕ) (limits : List ℕ) (told : ScheduleFault)
+pub groups_in-lacks2 : (counts : HeaderSettings) (text r1 : List ℕ) (limits : List ℕ) (told : ScheduleFault)
     → HasLine (header_numbers (codes "limits")) text limits r1
     → LacksLine 6 (header_numbers (codes "groups")) r1 told
-    → groups_in counts (lines_of text) ≡ Err told
-unfolding groups_in
+    → several_groups_in counts (lines_of text) ≡ Err told
+unfolding several_groups_in
 groups_in-lacks2 counts text r1 limits told one bad =
     rw (one.lines, one.is, bad.is, bad.bad) refl
 
-pub groups_in-lacks3 : (counts : Counts) (text r1 r2 : List ℕ) (limits groups : List ℕ) (told : ScheduleFault)
+pub groups_in-lacks3 : (counts : HeaderSettings) (text r1 r2 : List ℕ) (limits groups : List ℕ) (told : ScheduleFault)
     → HasLine (header_numbers (codes "limits")) text limits r1
     → HasLine (header_numbers (codes "groups")) r1 groups r2
     → LacksLine 7 (header_number (codes "tries")) r2 told
-    → groups_in counts (lines_of text) ≡ Err told
-unfolding groups_in
+    → several_groups_in counts (lines_of text) ≡ Err told
+unfolding several_groups_in
 groups_in-lacks3 counts text r1 r2 limits groups told one two bad =
     rw (one.lines, one.is, two.lines, two.is, bad.is, bad.bad) refl
 
-pub groups_in-lacks4 : (counts : Counts) (text r1 r2 r3 : List ℕ) (tries : ℕ) (limits groups : List ℕ) (told : ScheduleFault)
+pub groups_in-lacks4 : (counts : HeaderSettings) (text r1 r2 r3 : List ℕ) (tries : ℕ) (limits groups : List ℕ) (told : ScheduleFault)
     → HasLine (header_numbers (codes "limits")) text limits r1
     → HasLine (header_numbers (codes "groups")) r1 groups r2
     → HasLine (header_number (codes "tries")) r2 tries r3
     → LacksLine 8 (header_number (codes "stamp")) r3 told
-    → groups_in counts (lines_of text) ≡ Err told
-unfolding groups_in
+    → several_groups_in counts (lines_of text) ≡ Err told
+unfolding several_groups_in
 groups_in-lacks4 counts text r1 r2 r3 tries limits groups told one two three bad =
     rw (one.lines, one.is, two.lines, two.is, three.lines, three.is, bad.is, bad.bad) refl
 
-pub groups_in-has : (counts : Counts) (text r1 r2 r3 r4 : List ℕ) (tries stamp : ℕ) (limits groups : List ℕ)
+pub groups_in-has : (counts : HeaderSettings) (text r1 r2 r3 r4 : List ℕ) (tries stamp : ℕ) (limits groups : List ℕ)
     → HasLine (header_numbers (codes "limits")) text limits r1
     → HasLine (header_numbers (codes "groups")) r1 groups r2
     → HasLine (header_number (codes "tries")) r2 tries r3
     → HasLine (header_number (codes "stamp")) r3 stamp r4
-    → groups_in counts (lines_of text) ≡ Ok (with_groups counts limits groups (in_field tries) stamp)
-unfolding groups_in
+    → several_groups_in counts (lines_of text) ≡ Ok (with_groups counts limits groups (in_field tries) stamp)
+unfolding several_groups_in
 groups_in-has counts text r1 r2 r3 r4 tries stamp limits groups one two three four =
     rw (one.lines, one.is, two.lines, two.is, three.lines, three.is, four.lines, four.is) refl
 
@@ -199,14 +199,14 @@ pub header-lacks_counts : (text r1 : List ℕ) (version : Version) (told : Sched
 unfolding header
 header-lacks_counts text r1 version told one bad = rw (one.lines, one.is, bad) refl
 
-pub header-lacks_settings : (text r1 r2 : List ℕ) (version : Version) (counts : Counts) (told : ScheduleFault)
+pub header-lacks_settings : (text r1 r2 : List ℕ) (version : Version) (counts : HeaderSettings) (told : ScheduleFault)
     → HasLine version_in text version r1 → counts_in (lines_of r1) ≡ Ok counts → lines_of r2 ≡ drop 3 (lines_of r1)
     → settings_in version counts (lines_of r2) ≡ Err told → header (lines_of text) ≡ Err told
 unfolding header
 header-lacks_settings text r1 r2 version counts told one two rest bad =
     rw (one.lines, one.is, two, sym rest, bad) refl
 
-pub header-has : (text r1 r2 : List ℕ) (version : Version) (counts : Counts) (settings : Settings)
+pub header-has : (text r1 r2 : List ℕ) (version : Version) (counts : HeaderSettings) (settings : Settings)
     → HasLine version_in text version r1 → counts_in (lines_of r1) ≡ Ok counts → lines_of r2 ≡ drop 3 (lines_of r1)
     → settings_in version counts (lines_of r2) ≡ Ok settings
     → header (lines_of text) ≡ Ok (record { version = version; settings = settings })

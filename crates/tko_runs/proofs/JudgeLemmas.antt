@@ -11,16 +11,16 @@ use Rattle.tko_runs.specs.declared.checking.effect.Effect.{Effect}
 use Rattle.tko_runs.specs.declared.checking.order.Point.TheVariants as point
 use Rattle.tko_runs.specs.Orders.{IsLastLegalAt}
 use Rattle.tko_runs.specs.Effects.{AreEffects, IsEffect, Judges}
-use Rattle.tko_runs.specs.Points.{HasReply, IsEffective, MayHave, IsSoFar}
-use Rattle.tko_steps.specs.Legal.{IsLegal, IsLegalAt, IsQuiet, TakesEffect}
-use Rattle.tko_steps.specs.Runs.{Call, OwnStep}
+use Rattle.tko_runs.specs.Points.{MayTakeEffect, IsEffective, MayHave, IsSoFar}
+use Rattle.tko_steps.specs.Legal.{ChangesNothing, IsLegal, IsLegalAt, TakesEffect}
+use Rattle.tko_steps.specs.Runs.{OwnStep, RunCall}
 use Rattle.tko_runs.proofs.PointLemmas.{all_newer, all_others, all_own, all_with, no_step}
 
 -- Steps with what they show.
 
 -- a step's effect answers the call where the call takes effect there
-pub effective : (s : Settings) (call : Call) (answer : Option Reply) (own : OwnStep) (effect : Effect) (test : Bool)
-    → call.answer ≡ answer → IsEffect s call own effect → (test ≡ true) ↔ HasReply answer effect.gives
+pub effective : (s : Settings) (call : RunCall) (answer : Option Reply) (own : OwnStep) (effect : Effect) (test : Bool)
+    → call.answer ≡ answer → IsEffect s call own effect → (test ≡ true) ↔ MayTakeEffect answer effect.gives
     → (test ≡ true) ↔ IsEffective s call own
 effective s call answer own effect test same shows both = (
   λ e.
@@ -38,12 +38,12 @@ effective s call answer own effect test same shows both = (
       }),
 )
 
-pub no_effects : (s : Settings) (call : Call) (steps : List OwnStep) → AreEffects s call steps []
+pub no_effects : (s : Settings) (call : RunCall) (steps : List OwnStep) → AreEffects s call steps []
     → IsSoFar s call steps (Quiet None)
 no_effects s call [] are = no_step s call
 no_effects s call (own ∷ older) are = absurd are
 
-one_more : (s : Settings) (call : Call) (effect : Effect) (effects : List Effect) (before after : PointSoFar)
+one_more : (s : Settings) (call : RunCall) (effect : Effect) (effects : List Effect) (before after : PointSoFar)
     → ((steps : List OwnStep) → AreEffects s call steps effects → IsSoFar s call steps before)
     → ((own : OwnStep) (older : List OwnStep) → IsEffect s call own effect → IsSoFar s call older before
     → IsSoFar s call (own ∷ older) after)
@@ -58,7 +58,7 @@ reverse_more : (effects : List Effect) (place : ℕ) (none : Effect) → place <
 reverse_more effects place none inside =
     ap reverse (take_more effects place none inside) ∙ reverse-append (take place effects) (get_or effects place none ∷ [])
 
-pub so_far_more : (s : Settings) (call : Call) (effects given : List Effect) (place : ℕ) (none : Effect) (before after : PointSoFar)
+pub so_far_more : (s : Settings) (call : RunCall) (effects given : List Effect) (place : ℕ) (none : Effect) (before after : PointSoFar)
     → given ≡ effects → place < length given
     → ((steps : List OwnStep) → AreEffects s call steps (reverse (take place effects)) → IsSoFar s call steps before)
     → ((own : OwnStep) (older : List OwnStep) → IsEffect s call own (get_or given place none) → IsSoFar s call older before
@@ -73,7 +73,7 @@ so_far_more s call effects given place none before after same inside so_far next
 
 -- What that says of the call.
 
-module _ (s : Settings) (call : Call) where
+module _ (s : Settings) (call : RunCall) where
   effect_as : (reply : Reply) (own : OwnStep) → call.answer ≡ Some reply → IsEffective s call own
       → TakesEffect s call reply own.step
   effect_as reply own answer effect =
@@ -125,18 +125,18 @@ module _ (s : Settings) (call : Call) where
         older = stands.older;
         steps = stands.split;
         effect = effect_as reply stands.own answer stands.effect;
-        others = all_others IsQuiet stands.newer stands.own stands.older (rw stands.split at stands.quiet);
+        others = all_others ChangesNothing stands.newer stands.own stands.older (rw stands.split at stands.quiet);
         last = All-weaker (λ other. IsEffective s call other → ⊥) (λ other. IsLegalAt s call reply other → ⊥)
             (λ other. not_legal_at reply other answer) stands.newer stands.last;
       })
       stands.at
 
   -- a call is not legal at a quiet step where another step isn't quiet
-  not_legal_quiet : (reply : Reply) (other : OwnStep) → (All IsQuiet call.steps → ⊥) → IsQuiet other
+  not_legal_quiet : (reply : Reply) (other : OwnStep) → (All ChangesNothing call.steps → ⊥) → ChangesNothing other
       → IsLegalAt s call reply other → ⊥
   not_legal_quiet reply other changed quiet legal =
-      let P : List OwnStep → Type 0 = λ steps. All IsQuiet steps in
-      changed (subst P (sym legal.steps) (all_with IsQuiet legal.newer other legal.older legal.others quiet))
+      let P : List OwnStep → Type 0 = λ steps. All ChangesNothing steps in
+      changed (subst P (sym legal.steps) (all_with ChangesNothing legal.newer other legal.older legal.others quiet))
 
   pub answered_changed : (reply : Reply) (number : ℕ) → call.answer ≡ Some reply → reply ≢ Contended
       → IsSoFar s call call.steps (Changed (Some number)) → Judges s call (Some (point.At number))
@@ -148,10 +148,10 @@ module _ (s : Settings) (call : Call) where
         steps = stands.split;
         effect = effect_as reply stands.own answer stands.effect;
         others = stands.others;
-        last = All-weaker IsQuiet (λ other. IsLegalAt s call reply other → ⊥)
+        last = All-weaker ChangesNothing (λ other. IsLegalAt s call reply other → ⊥)
             (λ other. not_legal_quiet reply other
-            (λ all. stands.changed (all_own IsQuiet stands.newer stands.own stands.older (rw stands.split at all))))
-            stands.newer (all_newer IsQuiet stands.newer stands.older stands.others);
+            (λ all. stands.changed (all_own ChangesNothing stands.newer stands.own stands.older (rw stands.split at all))))
+            stands.newer (all_newer ChangesNothing stands.newer stands.older stands.others);
       })
       stands.at
 

@@ -8,34 +8,34 @@ use Rattle.tko_model.specs.Settings.{Settings}
 use Rattle.tko_model.specs.declared.state.ServerState.{ServerState}
 use Rattle.tko_model.specs.declared.transition.Transition.{Transition}
 use Rattle.tko_model.specs.Tracker.{changed, transition_on}
-use Rattle.tko_runs.specs.declared.checking.calls.Calls.{Calls}
+use Rattle.tko_runs.specs.declared.checking.calls.CheckedCalls.{CheckedCalls}
 use Rattle.tko_runs.specs.declared.checking.point.CheckedCall.{CheckedCall}
 use Rattle.tko_runs.specs.declared.checking.effect.Effect.{Effect}
 use Rattle.tko_runs.specs.declared.run.state.ThreadEntry.{ThreadEntry}
 use Rattle.tko_runs.specs.declared.run.state.ThreadEntry.TheVariants.{NotEnrolled, Idle, InCall}
-use Rattle.tko_runs.specs.States.{HasCall, IsIdle, RunState, answered, entry_at, in_call, with_answer, with_begin, with_enrolment, with_word, written}
+use Rattle.tko_runs.specs.States.{HasCall, IsThreadIdle, RunState, answered, entry_at, entry_in_call, servers_written, state_with_word, with_answer, with_begin, with_enrolment}
 use Rattle.tko_steps.specs.declared.step.Place.{Place}
 use Rattle.tko_steps.specs.declared.step.Place.TheVariants as place
 use Rattle.tko_steps.specs.declared.step.Word.{Word}
 use Rattle.tko_steps.specs.declared.step.Word.TheVariants as word
 use Rattle.tko_runs.specs.CheckStates.{AreCalls, HasBegun, HasGrown, HasStepped, IsLatest, Shows, latest_place, transition_of}
-use Rattle.tko_runs.specs.Effects.{AreEffects, IsKept, IsEffect}
+use Rattle.tko_runs.specs.Effects.{AreEffects, IsCallKept, IsEffect}
 use Rattle.tko_steps.specs.Legal.{TakesEffect, tracker_in}
-use Rattle.tko_steps.specs.Runs.{Began, Call, Moment, OwnStep, StepTaken, Took, and_step, begun_call, calls_of, own_step, with_step}
+use Rattle.tko_steps.specs.Runs.{Began, Moment, OwnStep, RunCall, StepTaken, Took, and_step, begun_call, calls_of, own_step, with_step}
 use Rattle.tko_runs.proofs.CallListLemmas.{AllLatest-begun, AllLatest-set, IsLatest-answered, get_reversed, has_latest, latest_place-with_step, length-AreKept, set_reversed, with_step-no_call}
 
 -- What a step shows.
 
 -- one more step leaves what a call's other steps show
-TakesEffect-and_step : (s : Settings) (call : Call) (own : OwnStep) (reply : Reply) (step : StepTaken)
+TakesEffect-and_step : (s : Settings) (call : RunCall) (own : OwnStep) (reply : Reply) (step : StepTaken)
     → TakesEffect s call reply step → TakesEffect s (and_step call own) reply step
 TakesEffect-and_step s call own reply step effect = record { reply = effect.reply; change = effect.change }
 
-TakesEffect-without_step : (s : Settings) (call : Call) (own : OwnStep) (reply : Reply) (step : StepTaken)
+TakesEffect-without_step : (s : Settings) (call : RunCall) (own : OwnStep) (reply : Reply) (step : StepTaken)
     → TakesEffect s (and_step call own) reply step → TakesEffect s call reply step
 TakesEffect-without_step s call own reply step effect = record { reply = effect.reply; change = effect.change }
 
-IsEffect-and_step : (s : Settings) (call : Call) (own other : OwnStep) (effect : Effect) → IsEffect s call other effect
+IsEffect-and_step : (s : Settings) (call : RunCall) (own other : OwnStep) (effect : Effect) → IsEffect s call other effect
     → IsEffect s (and_step call own) other effect
 IsEffect-and_step s call own other effect is =
     record {
@@ -47,7 +47,7 @@ IsEffect-and_step s call own other effect is =
       );
     }
 
-AreEffects-and_step : (s : Settings) (call : Call) (own : OwnStep) (steps : List OwnStep) (effects : List Effect)
+AreEffects-and_step : (s : Settings) (call : RunCall) (own : OwnStep) (steps : List OwnStep) (effects : List Effect)
     → AreEffects s call steps effects → AreEffects s (and_step call own) steps effects
 AreEffects-and_step s call own [] [] are = tt
 AreEffects-and_step s call own [] (effect ∷ effects) are = absurd are
@@ -57,7 +57,7 @@ AreEffects-and_step s call own (step ∷ steps) (effect ∷ effects) are =
 
 -- what is shown of a call is its effect
 pub IsEffect-shown : (s : Settings) (servers new : List ServerState) (kept : CheckedCall)
-    (effect : Effect) (call : Call) (own : OwnStep) → Shows s servers kept new effect
+    (effect : Effect) (call : RunCall) (own : OwnStep) → Shows s servers kept new effect
     → effect.at ≡ own.at → kept.number ≡ call.number → kept.op ≡ call.op → kept.server ≡ call.server
     → servers ≡ own.step.before → new ≡ own.step.after → IsEffect s call own effect
 IsEffect-shown s servers new kept effect call own shows at numbered asks on_server before after =
@@ -85,7 +85,7 @@ IsEffect-shown s servers new kept effect call own shows at numbered asks on_serv
 
 IsKept-begun : (s : Settings) (thread number : ℕ) (op : Op) (server : ℕ) (call : CheckedCall) → call.number ≡ number
     → call.op ≡ op → call.server ≡ server → call.answer ≡ None → call.steps.items ≡ []
-    → IsKept s (begun_call thread number op server) call
+    → IsCallKept s (begun_call thread number op server) call
 IsKept-begun s thread number op server call numbered asks on_server open_yet no_step =
     record {
       number = numbered;
@@ -95,8 +95,8 @@ IsKept-begun s thread number op server call numbered asks on_server open_yet no_
       steps = rw no_step tt;
     }
 
-is_idle_latest : (entry : ThreadEntry) (server place : ℕ) → IsIdle entry
-    → IsLatest (in_call entry server) (Some place) place
+is_idle_latest : (entry : ThreadEntry) (server place : ℕ) → IsThreadIdle entry
+    → IsLatest (entry_in_call entry server) (Some place) place
 is_idle_latest NotEnrolled server place idle = absurd idle
 is_idle_latest (Idle number) server place idle = refl
 is_idle_latest (InCall number on) server place idle = absurd idle
@@ -107,16 +107,16 @@ has_call_latest NotEnrolled found place has is = absurd has
 has_call_latest (Idle number) found place has is = absurd has
 has_call_latest (InCall number server) found place has is = is
 
-pub AreCalls-begun : (s : Settings) (state : RunState) (past : List Moment) (old new : Calls) (thread number : ℕ) (op : Op) (server : ℕ)
+pub AreCalls-begun : (s : Settings) (state : RunState) (past : List Moment) (old new : CheckedCalls) (thread number : ℕ) (op : Op) (server : ℕ)
     → AreCalls s state past old → HasBegun old thread number op server new → thread < length state.threads
-    → server < length state.words.servers → IsIdle (entry_at state thread)
+    → server < length state.words.servers → IsThreadIdle (entry_at state thread)
     → AreCalls s (with_begin state thread server) (Began thread number op server ∷ past) new
 AreCalls-begun s state past old new thread number op server are begun inside is_server idle =
     let P : CheckedCall → Type 0 = λ call. call.server < length state.words.servers in
     let calls = calls_of past in
     let long : length calls ≡ length old.all.items =
     length-AreKept s calls (reverse old.all.items) are.kept ∙ length-reverse old.all.items in
-    let entry = in_call (entry_at state thread) server in
+    let entry = entry_in_call (entry_at state thread) server in
     let latest = AllLatest-begun state.threads thread number op server entry calls old.latest.items
     inside (omega (arith, are.threads)) (is_idle_latest (entry_at state thread) server (length calls) idle) are.latest in
     record {
@@ -129,7 +129,7 @@ AreCalls-begun s state past old new thread number op server are begun inside is_
     }
 
 -- the latest call of a thread with a call is there
-pub latest_inside : (s : Settings) (state : RunState) (past : List Moment) (own : Calls) (thread : ℕ) → AreCalls s state past own
+pub latest_inside : (s : Settings) (state : RunState) (past : List Moment) (own : CheckedCalls) (thread : ℕ) → AreCalls s state past own
     → HasCall (entry_at state thread) → get_or own.latest.items thread 0 < length own.all.items
 latest_inside s state past own thread are has =
     let calls = calls_of past in
@@ -139,9 +139,9 @@ latest_inside s state past own thread are has =
     let it = has_latest s calls kept thread at are.kept found in
     omega (arith, length-reverse own.all.items, ap length it.split, length-append it.newer (it.own ∷ it.older), it.place_is)
 
-IsKept-stepped : (s : Settings) (call : Call) (step : OwnStep) (own new : CheckedCall) (effect : Effect) (answer : Option Reply)
-    → IsKept s call own → HasGrown own effect answer new → answer ≡ step.step.answer → IsEffect s call step effect
-    → IsKept s (and_step call step) new
+IsKept-stepped : (s : Settings) (call : RunCall) (step : OwnStep) (own new : CheckedCall) (effect : Effect) (answer : Option Reply)
+    → IsCallKept s call own → HasGrown own effect answer new → answer ≡ step.step.answer → IsEffect s call step effect
+    → IsCallKept s (and_step call step) new
 IsKept-stepped s call step own new effect answer is grown same shown =
     record {
       number = grown.numbered ∙ is.number;
@@ -153,7 +153,7 @@ IsKept-stepped s call step own new effect answer is grown same shown =
     }
 
 -- a step leaves as many servers as it found
-pub length-written : (servers : List ServerState) (at : Place) (left : Word) → length (written servers at left) ≡ length servers
+pub length-written : (servers : List ServerState) (at : Place) (left : Word) → length (servers_written servers at left) ≡ length servers
 length-written servers (place.Server server) (word.Server left) = length-set servers server left
 length-written servers (place.Server server) (word.Soft slots) = refl
 length-written servers (place.Server server) (word.Enrolled count) = refl
@@ -161,12 +161,12 @@ length-written servers (place.Soft group) left = refl
 length-written servers place.Enrolment left = refl
 
 -- a thread took a step of its call
-pub AreCalls-stepped : (s : Settings) (state : RunState) (past : List Moment) (old new : Calls) (effect : Effect) (answer : Option Reply)
+pub AreCalls-stepped : (s : Settings) (state : RunState) (past : List Moment) (old new : CheckedCalls) (effect : Effect) (answer : Option Reply)
     (at : Place) (left : Word) (step : StepTaken) → AreCalls s state past old → (grows : HasStepped old step.thread effect answer new)
     → step.thread < length state.threads → HasCall (entry_at state step.thread)
     → answer ≡ step.answer
-    → ((call : Call) → IsKept s call grows.call → IsEffect s call (own_step step past) effect)
-    → AreCalls s (with_answer (with_word state at left) step.thread answer) (Took step ∷ past) new
+    → ((call : RunCall) → IsCallKept s call grows.call → IsEffect s call (own_step step past) effect)
+    → AreCalls s (with_answer (state_with_word state at left) step.thread answer) (Took step ∷ past) new
 AreCalls-stepped s state past old new effect answer at left step are grows inside has same shown =
     let P : CheckedCall → Type 0 = λ call. call.server < length state.words.servers in
     let own_one : OwnStep = own_step step past in
@@ -178,7 +178,7 @@ AreCalls-stepped s state past old new effect answer at left step are grows insid
     let it = has_latest s calls (reverse old.all.items) thread place_of are.kept found in
     let own : grows.call ≡ it.own =
     grows.is ∙ get_reversed old.all.items it.newer it.older it.own grows.call place_of it.split it.place_is in
-    let K : CheckedCall → Type 0 = λ call. IsKept s it.call call in
+    let K : CheckedCall → Type 0 = λ call. IsCallKept s it.call call in
     let is = subst K (sym own) it.is_kept in
     let is_now = IsKept-stepped s it.call own_one grows.call grows.now effect answer is grows.grown same (shown it.call is) in
     let there = latest_inside s state past old thread are has in
@@ -197,7 +197,7 @@ AreCalls-stepped s state past old new effect answer at left step are grows insid
     }
 
 -- a thread that isn't enrolled began no call
-pub AreCalls-enrolled : (s : Settings) (state : RunState) (past : List Moment) (own : Calls) (step : StepTaken)
+pub AreCalls-enrolled : (s : Settings) (state : RunState) (past : List Moment) (own : CheckedCalls) (step : StepTaken)
     → AreCalls s state past own → step.thread < length state.threads → entry_at state step.thread ≡ NotEnrolled
     → AreCalls s (with_enrolment state step.thread) (Took step ∷ past) own
 AreCalls-enrolled s state past own step are inside stands =

@@ -9,10 +9,10 @@ use Rattle.tko_runs.specs.declared.run.event.Event.{Event}
 use Rattle.tko_runs.specs.declared.run.event.Event.TheVariants as event
 use Rattle.tko_runs.specs.declared.run.state.ThreadEntry.{ThreadEntry}
 use Rattle.tko_runs.specs.declared.run.state.ThreadEntry.TheVariants as entry
-use Rattle.tko_runs.specs.States.{AllCome, CanCome, Claimed, HasCall, IsIdle, RunState, answered, claimed_after, claimed_after_all, entry_at, moment_of, opened_claim, opened_state}
+use Rattle.tko_runs.specs.States.{AllCome, CanCome, Claimed, HasCall, IsThreadIdle, RunState, answered, claimed_after, claimed_after_all, entry_at, moment_of, opened_claim, opened_state}
 use Rattle.tko_runs.specs.Orders.{AllFollow, Follows}
 use Rattle.tko_runs.specs.Runs.{event_of, events_of}
-use Rattle.tko_steps.specs.declared.step.Kind.TheVariants as kind
+use Rattle.tko_steps.specs.declared.step.StepKind.TheVariants as kind
 use Rattle.tko_steps.specs.declared.step.Place.{Place}
 use Rattle.tko_steps.specs.declared.step.Place.TheVariants as place
 use Rattle.tko_steps.specs.declared.step.Word.{Word}
@@ -24,9 +24,9 @@ use Rattle.tko_steps.specs.declared.phase.Call.{Call}
 use Rattle.tko_steps.specs.declared.phase.Phase.{Phase}
 use Rattle.tko_steps.specs.declared.phase.ThreadState.{ThreadState}
 use Rattle.tko_steps.specs.declared.phase.ThreadState.TheVariants.{NotEnrolled, Idle, InCall}
-use Rattle.tko_steps.specs.Runs.{Turn, Moment, World, run, start}
+use Rattle.tko_steps.specs.Runs.{Turn, Moment, World, run, start_world}
 use Rattle.tko_steps.specs.Core.{CoreState, abstract_of, follows, thread_at, word_at}
-use Rattle.tko_steps.specs.Steps.{answer_of, kind_of, place_of, state_after, word_after}
+use Rattle.tko_steps.specs.Steps.{decided_answer, decided_state, place_of, step_kind, word_after}
 use Rattle.tko_steps.specs.Table.{action_of}
 use Rattle.tko_runs.proofs.ActLemmas.{acts}
 use Rattle.tko_runs.proofs.WordActLemmas.{Acts}
@@ -90,11 +90,11 @@ pub record Linked (s : Settings) (w : World) : Type 0 where
   pub come : AllCome (opened_state s) (events_of w.past)
   pub follow : AllFollow s (opened_state s) (events_of w.past)
 
-Linked-start : (s : Settings) → Linked s (start s)
+Linked-start : (s : Settings) → Linked s (start_world s)
 unfolding events_of
 Linked-start s =
     record {
-      same = ap (λ threads. record { state = record { words = (start s).core.shared; threads = threads }; past = [] })
+      same = ap (λ threads. record { state = record { words = (start_world s).core.shared; threads = threads }; past = [] })
           (sym (map-replicate entry_of s.threads NotEnrolled));
       come = tt;
       follow = tt;
@@ -126,7 +126,7 @@ Linked-begun : (s : Settings) (w : World) (thread number : ℕ) (op : Op) (serve
 Linked-begun s w thread number op server linked inside stands on_server =
     let idle = entry-at w.core thread (Idle number) stands in
     Linked-event s w (begun w thread op server) (event.Begin thread op server) linked
-    ((inside-at w.core thread inside, subst IsIdle (sym idle) tt), on_server) tt
+    ((inside-at w.core thread inside, subst IsThreadIdle (sym idle) tt), on_server) tt
     (rw (idle, stands, map-set) refl)
 
 Linked-enrolled : (s : Settings) (w : World) (thread : ℕ) → Linked s w → thread < length w.core.threads
@@ -144,7 +144,7 @@ Linked-enrolled s w thread linked inside stands =
 
 -- an answer ends the call of a thread, as the decision does
 answered-decided : (call : Call) (decision : Decision)
-    → answered (answer_of decision) (entry.InCall call.number call.server) ≡ entry_of (state_after call decision)
+    → answered (decided_answer decision) (entry.InCall call.number call.server) ≡ entry_of (decided_state call decision)
 answered-decided call (Goes lost phase) = refl
 answered-decided call (Answers answer) = refl
 
@@ -165,7 +165,7 @@ module _ (s : Settings) (w : World) (thread : ℕ) (call : Call) (phase : Phase)
   decision = follows w.core call phase
 
   abbrev step_event : Event
-  step_event = event.Step thread (kind_of act) at_place found_word left_word (answer_of decision)
+  step_event = event.Step thread (step_kind act) at_place found_word left_word (decided_answer decision)
 
   claimed-act : Acts w.core.settings w.core.shared call.server act → thread_at w.core thread ≡ InCall call phase
       → claimed_after (claim_of w) step_event ≡ claim_of (stepped_from w thread (InCall call phase))
@@ -176,7 +176,7 @@ module _ (s : Settings) (w : World) (thread : ℕ) (call : Call) (phase : Phase)
   Linked-act : Linked s w → thread < length w.core.threads → thread_at w.core thread ≡ InCall call phase
       → w.core.settings ≡ s → Acts w.core.settings w.core.shared call.server act → Linked s (stepped_from w thread (InCall call phase))
   Linked-act linked inside stands under acts =
-      let P : Settings → Type 0 = λ it. CanLeave it (room_at it w.core.shared.slots at_place) (kind_of act) found_word left_word in
+      let P : Settings → Type 0 = λ it. CanLeave it (room_at it w.core.shared.slots at_place) (step_kind act) found_word left_word in
       let has = subst HasCall (sym (entry-at w.core thread (InCall call phase) stands)) tt in
       Linked-event s w (stepped_from w thread (InCall call phase)) step_event linked
       (rw acts.steps ((inside-at w.core thread inside, has), acts.place))

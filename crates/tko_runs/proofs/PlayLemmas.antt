@@ -10,7 +10,7 @@ use Rattle.tko_runs.specs.declared.version.Version.{Version}
 use Rattle.tko_model.specs.Ranges.{IsWithinRanges}
 use Rattle.tko_runs.specs.States.{AllCome, Claimed, IsRunData, calls_in, claimed, opened_state}
 use Rattle.tko_runs.specs.Orders.{AllFollow, IsLegalRun}
-use Rattle.tko_runs.specs.Plays.{Played, after_all, after_command, after_commands, after_turn, enrolled, enrolments, named_by, opened_play, played, run_data_of, turns_of, with_begin, with_event, with_skip}
+use Rattle.tko_runs.specs.Plays.{Played, after_all_turns, after_command, after_commands, after_turn, command_turns, enrolled, enrolments, named_by, opened_play, played, played_begin, run_data_of, with_event, with_skip}
 use Rattle.tko_runs.specs.Plays as plays
 use Rattle.tko_runs.specs.Schedules.{Plan}
 use Rattle.tko_runs.specs.Runs.{event_of, events_of}
@@ -20,7 +20,7 @@ use Rattle.tko_steps.specs.declared.step.Stepped.{Stepped}
 use Rattle.tko_steps.specs.declared.step.Stepped.TheVariants as stepped
 use Rattle.tko_steps.specs.Core.{CoreState, abstract_of, after_begin, after_step, begin_fault, reported_by_step, unless_fault}
 use Rattle.tko_steps.specs.Legal.{IsLegal}
-use Rattle.tko_steps.specs.Runs.{Begin, Step, Turn, Call, Moment, World, began, calls_of, happens, run, with_reported}
+use Rattle.tko_steps.specs.Runs.{Begin, Step, Turn, RunCall, Moment, World, began, calls_of, happens, run, with_reported}
 use Rattle.tko_steps.proofs.WiringLemmas.{run-push}
 
 -- what was played are turns of a run
@@ -36,12 +36,12 @@ events-moment p past moment same =
 
 events-begin : (p : Played) (core : CoreState) (past : List Moment) (thread : ℕ) (op : Op) (server : ℕ) (found : Option BeginFault)
     → p.events ≡ events_of past
-    → (with_begin p thread op server found).events ≡ events_of (unless_fault found (began core thread op server ∷ past) past)
+    → (played_begin p thread op server found).events ≡ events_of (unless_fault found (began core thread op server ∷ past) past)
 events-begin p core past thread op server None same = events-moment p past (began core thread op server) same
 events-begin p core past thread op server (Some fault) same = same
 
 events-step : (p : Played) (before new : CoreState) (past : List Moment) (thread : ℕ) (told : Stepped) → p.events ≡ events_of past
-    → (plays.with_step p thread told).events ≡ events_of (with_reported past thread (abstract_of before) (abstract_of new) told)
+    → (plays.played_step p thread told).events ≡ events_of (with_reported past thread (abstract_of before) (abstract_of new) told)
 events-step p before new past thread stepped.NoThread same = same
 events-step p before new past thread stepped.Idle same = same
 events-step p before new past thread (stepped.Did kind place found left won answer) same = events-moment p past _ same
@@ -53,10 +53,10 @@ core-turn p w (Step thread) core = ap (λ c. after_step c thread) core
 events-turn : (p : Played) (w : World) (turn : Turn) → p.core ≡ w.core → p.events ≡ events_of w.past
     → (after_turn p turn).events ≡ events_of (happens w turn).past
 events-turn p w (Begin thread op server) core events =
-    ap (λ (c : CoreState). (with_begin p thread op server (begin_fault c thread server)).events) core
+    ap (λ (c : CoreState). (played_begin p thread op server (begin_fault c thread server)).events) core
     ∙ events-begin p w.core w.past thread op server (begin_fault w.core thread server) events
 events-turn p w (Step thread) core events =
-    ap (λ (c : CoreState). (plays.with_step p thread (reported_by_step c thread)).events) core
+    ap (λ (c : CoreState). (plays.played_step p thread (reported_by_step c thread)).events) core
     ∙ events-step p w.core (after_step w.core thread) w.past thread (reported_by_step w.core thread) events
 
 IsRun-turn : (s : Settings) (p : Played) (turn : Turn) → IsRun s p → IsRun s (after_turn p turn)
@@ -69,14 +69,14 @@ IsRun-turn s p turn is =
       events = events-turn p w turn is.core is.events ∙ sym (ap (λ (v : World). events_of v.past) more);
     }
 
-IsRun-all : (s : Settings) (p : Played) (turns : List Turn) → IsRun s p → IsRun s (after_all p turns)
+IsRun-all : (s : Settings) (p : Played) (turns : List Turn) → IsRun s p → IsRun s (after_all_turns p turns)
 IsRun-all s p [] is = is
 IsRun-all s p (turn ∷ turns) is = IsRun-all s (after_turn p turn) turns (IsRun-turn s p turn is)
 
 IsRun-commands : (s : Settings) (p : Played) (commands : List Command) → IsRun s p → IsRun s (after_commands p commands)
 IsRun-commands s p [] is = is
 IsRun-commands s p (command ∷ commands) is =
-    IsRun-commands s (after_command p command) commands (IsRun-all s p (turns_of p.core command) is)
+    IsRun-commands s (after_command p command) commands (IsRun-all s p (command_turns p.core command) is)
 
 IsRun-opened : (s : Settings) → IsRun s (opened_play s)
 IsRun-opened s = record { turns = []; core = refl; events = sym events_of-none }
@@ -108,7 +108,7 @@ pub IsLegalRun-run : (version : Version) (s : Settings) (p : Played) → IsWithi
     → IsLegalRun (run_data_of version s p)
 IsLegalRun-run version s p ranges legal is =
     let P : List Event → Type 0 = λ events. AllFollow s (opened_state s) events in
-    let Q : List Call → Type 0 = λ calls. All (IsLegal s) calls in
+    let Q : List RunCall → Type 0 = λ calls. All (IsLegal s) calls in
     let same : calls_in s p.events ≡ reverse (calls_of (run s is.turns).past) =
     ap (calls_in s) is.events ∙ calls_in-run s ranges is.turns in
     record {

@@ -13,13 +13,13 @@ use Rattle.tko_model.specs.declared.layout.Layout.TheVariants as layout
 use Rattle.tko_model.specs.Limits.{max_failures, max_limit, max_servers, max_threads, max_tries, worn}
 use Rattle.tko_model.specs.Ranges.{IsWithin, IsWithinRanges, first_fault_in, is_within}
 use Rattle.tko_model.proofs.RangeLemmas.{are_within-all, has_groups-all}
-use Rattle.tko_runs.specs.Plays.{Played, after_all, after_command, after_commands, after_turn, enrolled, enrolments, named_by, opened_play, played, turns_of, with_begin, with_event, with_skip, with_skips}
+use Rattle.tko_runs.specs.Plays.{Played, after_all_turns, after_command, after_commands, after_turn, command_turns, enrolled, enrolments, named_by, opened_play, played, played_begin, with_event, with_skip, with_skips}
 use Rattle.tko_runs.specs.Plays as plays
 use Rattle.tko_runs.specs.Runs.{Skip, one_by_one}
 use Rattle.tko_runs.specs.declared.run.SkippedTurns.{SkippedTurns}
 use Rattle.tko_model.specs.declared.mark.Reply.{Reply}
 use Rattle.tko_steps.specs.declared.step.BeginFault.{BeginFault}
-use Rattle.tko_steps.specs.declared.step.Kind.{Kind}
+use Rattle.tko_steps.specs.declared.step.StepKind.{StepKind}
 use Rattle.tko_steps.specs.declared.step.Place.{Place}
 use Rattle.tko_steps.specs.declared.step.Word.{Word}
 use Rattle.tko_steps.specs.declared.step.Stepped.TheVariants as stepped
@@ -40,12 +40,12 @@ Stalls core thread turn =
 after_all-stalls : (core : CoreState) (thread : ℕ) (turn : SkippedTurn) → Stalls core thread turn → (n : ℕ)
     (events : List Event) (skips : List Skip)
     → (let p : Played = record { core = core; events = events; skips = skips } in
-    after_all p (replicate n (Step thread)) ≡ with_skips p turn n)
+    after_all_turns p (replicate n (Step thread)) ≡ with_skips p turn n)
 after_all-stalls core thread turn stalls zero events skips =
     ap (λ (all : List Skip). record { core = core; events = events; skips = all }) (sym (append-nil skips))
 after_all-stalls core thread turn stalls (suc n) events skips =
     let skip : Skip = record { after = length events; turn = turn } in
-    ap (λ p. after_all p (replicate n (Step thread))) (stalls events skips)
+    ap (λ p. after_all_turns p (replicate n (Step thread))) (stalls events skips)
     ∙ after_all-stalls core thread turn stalls n events (skips ++ skip ∷ [])
     ∙ ap (λ (all : List Skip). record { core = core; events = events; skips = all }) (append_assoc skips (skip ∷ []) (replicate n skip))
 
@@ -76,7 +76,7 @@ unmoved-none core thread false e = refl
 pub Stalls-idle : (core : CoreState) (thread : ℕ) → reported_by_step core thread ≡ stepped.Idle → Stalls core thread (skipped.Idle thread)
 Stalls-idle core thread told events skips =
     let p : Played = record { core = core; events = events; skips = skips } in
-    ap (λ t. record (plays.with_step p thread t) { core = after_step core thread }) told
+    ap (λ t. record (plays.played_step p thread t) { core = after_step core thread }) told
     ∙ ap (λ (c : CoreState). record (with_skip p (skipped.Idle thread)) { core = c })
     (unmoved-idle core thread (ltb thread (length core.threads)) told)
 
@@ -84,7 +84,7 @@ pub Stalls-none : (core : CoreState) (thread : ℕ) → reported_by_step core th
     → Stalls core thread (skipped.NoThread thread)
 Stalls-none core thread told events skips =
     let p : Played = record { core = core; events = events; skips = skips } in
-    ap (λ t. record (plays.with_step p thread t) { core = after_step core thread }) told
+    ap (λ t. record (plays.played_step p thread t) { core = after_step core thread }) told
     ∙ ap (λ (c : CoreState). record (with_skip p (skipped.NoThread thread)) { core = c })
     (unmoved-none core thread (ltb thread (length core.threads)) told)
 
@@ -124,35 +124,35 @@ after_turn-refused p q thread op server fault is some =
 -- Steps, as they are kept.
 
 pub after_all-idle : (p q : Played) (thread n : ℕ) → p ≡ q → reported_by_step p.core thread ≡ stepped.Idle
-    → with_skips (record p { core = after_step p.core thread }) (skipped.Idle thread) n ≡ after_all q (replicate n (Step thread))
+    → with_skips (record p { core = after_step p.core thread }) (skipped.Idle thread) n ≡ after_all_turns q (replicate n (Step thread))
 after_all-idle p q thread n is told =
     ap (λ (c : CoreState). with_skips (record p { core = c }) (skipped.Idle thread) n)
     (unmoved-idle p.core thread (ltb thread (length p.core.threads)) told)
     ∙ sym (after_all-stalls p.core thread (skipped.Idle thread) (Stalls-idle p.core thread told) n p.events p.skips)
-    ∙ ap (λ r. after_all r (replicate n (Step thread))) is
+    ∙ ap (λ r. after_all_turns r (replicate n (Step thread))) is
 
 pub after_all-none : (p q : Played) (thread n : ℕ) → p ≡ q → reported_by_step p.core thread ≡ stepped.NoThread
-    → with_skips (record p { core = after_step p.core thread }) (skipped.NoThread thread) n ≡ after_all q (replicate n (Step thread))
+    → with_skips (record p { core = after_step p.core thread }) (skipped.NoThread thread) n ≡ after_all_turns q (replicate n (Step thread))
 after_all-none p q thread n is told =
     ap (λ (c : CoreState). with_skips (record p { core = c }) (skipped.NoThread thread) n)
     (unmoved-none p.core thread (ltb thread (length p.core.threads)) told)
     ∙ sym (after_all-stalls p.core thread (skipped.NoThread thread) (Stalls-none p.core thread told) n p.events p.skips)
-    ∙ ap (λ r. after_all r (replicate n (Step thread))) is
+    ∙ ap (λ r. after_all_turns r (replicate n (Step thread))) is
 
 replicate-left : {X : Type 0} (x : X) (n k : ℕ) → k < n → replicate (n - k) x ≡ x ∷ replicate (n - (k + 1)) x
 replicate-left x n k low = let one : n - k ≡ suc (n - (k + 1)) = omega (arith, low) in ap (λ m. replicate m x) one
 
 pub after_all-did : (p q : Played) (thread steps done : ℕ) → p ≡ q → done < steps
-    → {kind : Kind} {place : Place} {found left : Word} {won : Bool} {answer : Option Reply}
+    → {kind : StepKind} {place : Place} {found left : Word} {won : Bool} {answer : Option Reply}
     → reported_by_step p.core thread ≡ stepped.Did kind place found left won answer
-    → after_all (with_event (record p { core = after_step p.core thread }) (event.Step thread kind place found left answer))
+    → after_all_turns (with_event (record p { core = after_step p.core thread }) (event.Step thread kind place found left answer))
     (replicate (steps - (done + 1)) (Step thread))
-    ≡ after_all q (replicate (steps - done) (Step thread))
+    ≡ after_all_turns q (replicate (steps - done) (Step thread))
 after_all-did p q thread steps done is low told =
-    ap (λ q. after_all q (replicate (steps - (done + 1)) (Step thread)))
-    (sym (ap (λ t. record (plays.with_step p thread t) { core = after_step p.core thread }) told))
-    ∙ ap (after_all p) (sym (replicate-left (Step thread) steps done low))
-    ∙ ap (λ r. after_all r (replicate (steps - done) (Step thread))) is
+    ap (λ q. after_all_turns q (replicate (steps - (done + 1)) (Step thread)))
+    (sym (ap (λ t. record (plays.played_step p thread t) { core = after_step p.core thread }) told))
+    ∙ ap (after_all_turns p) (sym (replicate-left (Step thread) steps done low))
+    ∙ ap (λ r. after_all_turns r (replicate (steps - done) (Step thread))) is
 
 -- Opening.
 
@@ -190,14 +190,14 @@ within_two layout.One s is =
 within_two layout.Two s is = is
 
 after_all-push : (p : Played) (turns : List Turn) (turn : Turn)
-    → after_all p (turns ++ turn ∷ []) ≡ after_turn (after_all p turns) turn
+    → after_all_turns p (turns ++ turn ∷ []) ≡ after_turn (after_all_turns p turns) turn
 after_all-push p [] turn = refl
 after_all-push p (first ∷ turns) turn = after_all-push (after_turn p first) turns turn
 
-pub enrolled-more : (p new : Played) (thread : ℕ) (opened : Played) → p ≡ after_all opened (enrolments thread)
-    → new ≡ after_all p (replicate 1 (Step thread)) → new ≡ after_all opened (enrolments (thread + 1))
+pub enrolled-more : (p new : Played) (thread : ℕ) (opened : Played) → p ≡ after_all_turns opened (enrolments thread)
+    → new ≡ after_all_turns p (replicate 1 (Step thread)) → new ≡ after_all_turns opened (enrolments (thread + 1))
 enrolled-more p new thread opened is one =
     one
     ∙ ap (λ q. after_turn q (Step thread)) is
     ∙ sym (after_all-push opened (enrolments thread) (Step thread))
-    ∙ ap (λ n. after_all opened (enrolments n)) (sym (add-one thread))
+    ∙ ap (λ n. after_all_turns opened (enrolments n)) (sym (add-one thread))

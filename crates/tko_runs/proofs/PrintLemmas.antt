@@ -4,7 +4,7 @@ use Rattle.std.proofs.Math.Nat.{sub_self}
 use Rattle.std.proofs.lemmas.List.{drop_more, take_min, drop_min}
 use Rattle.tko_model.specs.declared.state.ServerState.{ServerState}
 use Rattle.tko_runs.specs.States.{opened_state, state_after_all}
-use Rattle.tko_runs.specs.Prints.{events_text, line, lines_text, number_behind, order_text, run_text, servers_text, skipped_text, soft_words_text, steps_of}
+use Rattle.tko_runs.specs.Prints.{events_text, line, lines_text, number_behind, order_text, run_servers_text, run_text, skipped_text, soft_words_text, steps_in_event}
 use Rattle.tko_runs.specs.Repeats.{repeated}
 use Rattle.tko_runs.specs.Runs.{Skip, RunData, one_by_one}
 use Rattle.tko_runs.specs.declared.run.event.Event.{Event}
@@ -18,7 +18,7 @@ use Rattle.tko_steps.specs.declared.phase.Slots.{Slots}
 use Rattle.tko_steps.specs.Core.{Shared, is_call_step}
 
 -- an event is at most one step
-steps_of-le : (event : Event) → steps_of event ≤ 1
+steps_of-le : (event : Event) → steps_in_event event ≤ 1
 steps_of-le (Begin thread op server) = omega arith
 steps_of-le (Step thread kind at found left answer) = count_of-le (is_call_step kind)
 
@@ -26,7 +26,7 @@ steps_of-le (Step thread kind at found left answer) = count_of-le (is_call_step 
 number_behind-le : (number : ℕ) (events : List Event) → number_behind number events ≤ number + length events
 number_behind-le number [] = omega arith
 number_behind-le number (event ∷ events) =
-    omega (arith, number_behind-le (number + steps_of event) events, steps_of-le event)
+    omega (arith, number_behind-le (number + steps_in_event event) events, steps_of-le event)
 
 -- one of several times
 repeated-suc : (times : ℕ) (text : List ℕ) (rest : ℕ) → times ≡ suc rest → repeated times text ≡ text ++ repeated rest text
@@ -122,13 +122,13 @@ pub run_told :
     → opening ≡ []
     → told ≡ opening ++ lines_text form 1 0 events skips
     → ordered ≡ told ++ order_text 1 order
-    → served ≡ ordered ++ servers_text 0 servers
+    → served ≡ ordered ++ run_servers_text 0 servers
     → soft ≡ served ++ soft_words_text soft_form 0 slots
     → text ≡ soft ++ line (codes "ok")
     → text ≡ run_text run order
 unfolding run_text
 run_told run order events skips words servers slots form soft_form opening told ordered served soft text is_events is_skips is_words is_servers is_slots is_form is_soft_form is_opening is_told is_ordered is_served is_soft is_text =
     let left : Shared = (state_after_all (opened_state run.settings) run.events).words in
-    let whole = regroup (lines_text run.version 1 0 run.events run.skips) (order_text 1 order) (servers_text 0 left.servers)
+    let whole = regroup (lines_text run.version 1 0 run.events run.skips) (order_text 1 order) (run_servers_text 0 left.servers)
     (soft_words_text run.version 0 left.slots) (line (codes "ok")) in
     rw (is_text, is_soft, is_served, is_ordered, is_told, is_opening, is_form, is_soft_form, is_slots, is_servers, is_words, is_events, is_skips) whole

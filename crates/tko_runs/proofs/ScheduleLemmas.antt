@@ -6,7 +6,7 @@ use Rattle.tko_runs.specs.declared.schedule.command.Command.{Command}
 use Rattle.tko_runs.specs.declared.schedule.fault.ScheduleFault.{ScheduleFault}
 use Rattle.tko_runs.specs.declared.schedule.fault.ScheduleFault.TheVariants as fault
 use Rattle.tko_bytes.specs.Lines.{lines_of}
-use Rattle.tko_runs.specs.Schedules.{Header, commands_of, header, plan_behind, plan_in, plan_of, reads}
+use Rattle.tko_runs.specs.Schedules.{ScheduleHeader, commands_of, header, plan_behind, plan_in, plan_of, reads}
 use Rattle.tko_runs.specs.Versions.{header_lines, layout_of}
 
 pub reads-long : (text : List ℕ) → 1048576 < length text → reads text ≡ Err (fault.Line 0)
@@ -22,7 +22,7 @@ pub reads-header : (text : List ℕ) (told : ScheduleFault) → length text ≤ 
 reads-header text told short bad = reads-short text short ∙ ap (λ h. plan_in h (lines_of text)) bad
 
 -- the rest of a text, after the lines of its header
-module _ (text rest : List ℕ) (head : Header) where
+module _ (text rest : List ℕ) (head : ScheduleHeader) where
   abbrev before : ℕ
   before = header_lines head.version
 

@@ -22,7 +22,7 @@ use Rattle.tko_steps.specs.declared.table.Action.TheVariants.{Exchange, Reserve}
 use Rattle.tko_steps.specs.declared.table.Decision.{Decision}
 use Rattle.tko_steps.specs.declared.table.Decision.TheVariants.{Goes, Answers}
 use Rattle.tko_steps.specs.Core.{Shared, seen_by, slots_at}
-use Rattle.tko_steps.specs.Steps.{state_after, writes}
+use Rattle.tko_steps.specs.Steps.{decided_state, writes}
 use Rattle.tko_steps.specs.declared.step.Word.TheVariants as word
 use Rattle.tko_steps.specs.Table.{action_of, at_threshold, from_start, goes, lost_try}
 use Rattle.tko_steps.specs.Table.{next_of, same_server}
@@ -39,7 +39,7 @@ left_of s (InCall call phase) = 5 * (s.tries - call.lost) - depth phase
 module _ (s : Settings) (call : Call) (left : call.lost < s.tries) where
   -- what follows a step leaves fewer
   abbrev IsNearer : ℕ → Decision → Type 0
-  IsNearer before decision = left_of s (state_after call decision) < before
+  IsNearer before decision = left_of s (decided_state call decision) < before
 
   nearer-lost : (before : ℕ) → 5 * (s.tries - call.lost) < before + 5
       → IsNearer before (lost_try s call)

@@ -9,8 +9,8 @@ use Rattle.tko_model.specs.declared.mark.Mark.TheVariants.{Up}
 use Rattle.tko_model.specs.Settings.{Settings}
 use Rattle.tko_model.specs.declared.state.ServerState.{ServerState}
 use Rattle.tko_model.specs.Tracker.{server_at}
-use Rattle.tko_runs.specs.States.{IsPlace, written, written_slots, wrote}
-use Rattle.tko_runs.specs.Words.{CanLeave, CanLeaveServer, CanMark, IsExchange, IsValid, room_at}
+use Rattle.tko_runs.specs.States.{HasPlace, servers_written, written_slots, wrote}
+use Rattle.tko_runs.specs.Words.{CanLeave, CanLeaveServer, CanMark, IsValid, IsWonExchange, room_at}
 use Rattle.tko_steps.specs.declared.phase.Slots.{Slots}
 use Rattle.tko_steps.specs.declared.step.Word.TheVariants as word
 use Rattle.tko_steps.specs.declared.table.Action.{Action}
@@ -18,7 +18,7 @@ use Rattle.tko_steps.specs.declared.table.Action.TheVariants.{LookAtServer, Look
 use Rattle.tko_steps.specs.declared.table.Action.TheVariants.{Reserve, Settle, Loosen, Give}
 use Rattle.tko_steps.specs.Core.{owner_of, Shared, is_call_step, seen_by, shared_after, word_at}
 use Rattle.tko_steps.specs.Core.{CanAct, no_slots, slots_at}
-use Rattle.tko_steps.specs.Steps.{is_done, kind_of, kind_of_exchange, place_of, word_after}
+use Rattle.tko_steps.specs.Steps.{is_done, kind_of_exchange, place_of, step_kind, word_after}
 use Rattle.tko_steps.specs.Table.{same_mark, same_server, same_slots}
 use Rattle.tko_steps.proofs.TableLemmas.{eq-same_server, same_server-true, same_slots-true}
 use Rattle.tko_model.specs.Groups.{group_of, limit_at}
@@ -27,18 +27,18 @@ use Rattle.tko_runs.proofs.ExchangeLemmas.{exchange-wrote}
 
 -- what a step claims of the words before and after it
 pub record Acts (s : Settings) (shared : Shared) (server : ℕ) (act : Action) : Type 0 where
-  pub steps : is_call_step (kind_of act) ≡ true
-  pub place : IsPlace shared (place_of s server act)
-  pub servers : written shared.servers (place_of s server act)
+  pub steps : is_call_step (step_kind act) ≡ true
+  pub place : HasPlace shared (place_of s server act)
+  pub servers : servers_written shared.servers (place_of s server act)
       (word_after act (word_at shared (place_of s server act)))
       ≡ (shared_after s shared server act).servers
   pub slots : written_slots shared.slots (place_of s server act)
       (word_after act (word_at shared (place_of s server act)))
       ≡ (shared_after s shared server act).slots
-  pub wins : wrote (kind_of act) (word_at shared (place_of s server act))
+  pub wins : wrote (step_kind act) (word_at shared (place_of s server act))
       (word_after act (word_at shared (place_of s server act)))
       ≡ is_done (seen_by s shared server act)
-  pub can : CanLeave s (room_at s shared.slots (place_of s server act)) (kind_of act)
+  pub can : CanLeave s (room_at s shared.slots (place_of s server act)) (step_kind act)
       (word_at shared (place_of s server act))
       (word_after act (word_at shared (place_of s server act)))
 
@@ -171,7 +171,7 @@ module _ (s : Settings) (shared : Shared) (server : ℕ) (found : ServerState) (
       ≡ true =
       exchange-wrote found.mark mark (word.Server now) (word.Server new)
       ∙ ap (λ t. cond t false true) apart in
-      let exchange : IsExchange s held (kind_of_exchange found.mark mark) found new = record {
+      let exchange : IsWonExchange s held (kind_of_exchange found.mark mark) found new = record {
         mark = can;
         stamp = refl;
         valid = valid;

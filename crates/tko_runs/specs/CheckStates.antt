@@ -8,7 +8,7 @@ use Rattle.tko_model.specs.declared.state.ServerState.{ServerState}
 use Rattle.tko_model.specs.declared.transition.Transition.{Transition}
 use Rattle.tko_model.specs.Ranges.{IsWithinRanges}
 use Rattle.tko_model.specs.Tracker.{changed, transition_on}
-use Rattle.tko_runs.specs.declared.checking.calls.Calls.{Calls}
+use Rattle.tko_runs.specs.declared.checking.calls.CheckedCalls.{CheckedCalls}
 use Rattle.tko_runs.specs.declared.checking.RunFault.{RunFault}
 use Rattle.tko_runs.specs.declared.checking.RunFault.TheVariants as fault
 use Rattle.tko_runs.specs.declared.checking.state.CheckState.{CheckState}
@@ -18,26 +18,26 @@ use Rattle.tko_runs.specs.declared.checking.effect.Effect.{Effect}
 use Rattle.tko_runs.specs.declared.checking.order.Point.{Point}
 use Rattle.tko_runs.specs.declared.run.state.ThreadEntry.{ThreadEntry}
 use Rattle.tko_runs.specs.declared.run.state.ThreadEntry.TheVariants.{NotEnrolled, Idle, InCall}
-use Rattle.tko_runs.specs.States.{AllCome, RunState, claimed, entry_at, moment_of, opened_state, state_after, written}
+use Rattle.tko_runs.specs.States.{AllCome, RunState, claimed, entry_at, moment_of, opened_state, servers_written, state_after}
 use Rattle.tko_runs.specs.Orders.{AllFollow, Follows, FollowsAt, IsFirstIllegal, IsOrder}
-use Rattle.tko_runs.specs.Effects.{IsKept}
+use Rattle.tko_runs.specs.Effects.{IsCallKept}
 use Rattle.tko_runs.specs.Words.{IsValid}
-use Rattle.tko_steps.specs.declared.step.Kind.{Kind}
+use Rattle.tko_steps.specs.declared.step.StepKind.{StepKind}
 use Rattle.tko_steps.specs.declared.step.Place.{Place}
 use Rattle.tko_steps.specs.declared.step.Word.{Word}
 use Rattle.tko_steps.specs.Legal.{IsLegal, tracker_in}
-use Rattle.tko_steps.specs.Runs.{Call, Moment, calls_of, steps_in}
+use Rattle.tko_steps.specs.Runs.{Moment, RunCall, calls_of, steps_in}
 
 -- Changes of the calls.
 
 -- `threads` threads, and no call
-pub record AreOpened (threads : ℕ) (new : Calls) : Type 0 where
+pub record AreOpened (threads : ℕ) (new : CheckedCalls) : Type 0 where
   pub latest : length new.latest.items ≡ threads
   pub calls : new.all.items ≡ []
 
 -- one more call, which is the latest of its thread
-pub record HasBegun
-    (old : Calls) (thread number : ℕ) (op : Op) (server : ℕ) (new : Calls) : Type 0 where
+pub record HasBegun (old : CheckedCalls) (thread number : ℕ) (op : Op) (server : ℕ)
+    (new : CheckedCalls) : Type 0 where
   pub call : CheckedCall
   pub numbered : call.number ≡ number
   pub asks : call.op ≡ op
@@ -58,11 +58,11 @@ pub record HasGrown
 
 -- so has the latest call of the thread, and no other
 pub record HasStepped
-    (old : Calls)
+    (old : CheckedCalls)
     (thread : ℕ)
     (effect : Effect)
     (answer : Option Reply)
-    (new : Calls) : Type 0 where
+    (new : CheckedCalls) : Type 0 where
   pub call : CheckedCall
   pub now : CheckedCall
   pub is : call ≡ get_or old.all.items (get_or old.latest.items thread 0) call
@@ -73,15 +73,15 @@ pub record HasStepped
 -- What is kept.
 
 -- one for each call, in the same order
-abbrev pub AreKept : Settings → List Call → List CheckedCall → Type 0
+abbrev pub AreKept : Settings → List RunCall → List CheckedCall → Type 0
 AreKept s [] [] = Unit {0}
 AreKept s [] (kept ∷ others) = ⊥
 AreKept s (call ∷ calls) [] = ⊥
-AreKept s (call ∷ calls) (kept ∷ others) = IsKept s call kept × AreKept s calls others
+AreKept s (call ∷ calls) (kept ∷ others) = IsCallKept s call kept × AreKept s calls others
 
 -- the place of the call that a thread began last, in a list with the newest first and the places
 -- counted from the oldest
-abbrev pub latest_place : ℕ → List Call → Option ℕ
+abbrev pub latest_place : ℕ → List RunCall → Option ℕ
 latest_place thread [] = None
 latest_place thread (call ∷ calls) =
     if call.thread == thread then Some (length calls) else latest_place thread calls
@@ -93,16 +93,16 @@ IsLatest (Idle number) found place = Unit {0}
 IsLatest (InCall number server) found place = found ≡ Some place
 
 -- these are the calls of this past, after which the threads are these
-pub record AreCalls (s : Settings) (state : RunState) (past : List Moment) (own : Calls) : Type 0
-  where
-    pub kept : AreKept s (calls_of past) (reverse own.all.items)
-    pub latest : (thread : ℕ) →
-        IsLatest
-        (entry_at state thread)
-        (latest_place thread (calls_of past))
-        (get_or own.latest.items thread 0)
-    pub threads : length own.latest.items ≡ length state.threads
-    pub on_server : All (λ call. call.server < length state.words.servers) own.all.items
+pub record AreCalls (s : Settings) (state : RunState) (past : List Moment) (own : CheckedCalls)
+    : Type 0 where
+  pub kept : AreKept s (calls_of past) (reverse own.all.items)
+  pub latest : (thread : ℕ) →
+      IsLatest
+      (entry_at state thread)
+      (latest_place thread (calls_of past))
+      (get_or own.latest.items thread 0)
+  pub threads : length own.latest.items ≡ length state.threads
+  pub on_server : All (λ call. call.server < length state.words.servers) own.all.items
 
 -- What a step shows.
 
@@ -112,7 +112,7 @@ transition_of s servers call =
     transition_on (tracker_in s servers) call.number call.op call.server
 
 -- the tracker gives this reply there, and its change leaves these servers
-pub record Gives
+pub record GivesReply
     (s : Settings)
     (servers : List ServerState)
     (call : CheckedCall)
@@ -135,7 +135,7 @@ pub record Shows
     (new : List ServerState)
     (effect : Effect) : Type 0 where
   pub quiet : (effect.is_quiet ≡ true) ↔ (new ≡ servers)
-  pub gives : (given : Reply) → (effect.gives ≡ Some given) ↔ Gives s servers call given new
+  pub gives : (given : Reply) → (effect.gives ≡ Some given) ↔ GivesReply s servers call given new
 
 -- The state of the check.
 
@@ -154,7 +154,7 @@ pub record IsCheckState (d : CheckState) : Type 0 where
   pub past : List Moment
   pub stands : IsCheckOf past d
 
-pub record IsOpened (s : Settings) (d : CheckState) : Type 0 where
+pub record IsCheckOpened (s : Settings) (d : CheckState) : Type 0 where
   pub settings : d.settings ≡ s
   pub run : d.run ≡ opened_state s
   pub stands : IsCheckOf [] d
@@ -163,7 +163,7 @@ pub record IsOpened (s : Settings) (d : CheckState) : Type 0 where
 pub record HasFollowed
     (old : CheckState)
     (thread : ℕ)
-    (kind : Kind)
+    (kind : StepKind)
     (at : Place)
     (found left : Word)
     (answer : Option Reply)
@@ -176,14 +176,14 @@ pub record HasFollowed
       old.settings
       old.run.words.servers
       grows.call
-      (written old.run.words.servers at left)
+      (servers_written old.run.words.servers at left)
       effect
   pub settings : new.settings ≡ old.settings
   pub run : new.run ≡ old.run
   pub steps : new.steps ≡ old.steps + 1
 
 -- why it refused the step
-abbrev pub IsStrayFault : CheckState → Kind → Place → Word → Word → RunFault → Type 0
+abbrev pub IsStrayFault : CheckState → StepKind → Place → Word → Word → RunFault → Type 0
 IsStrayFault old kind at found left (fault.Step number) =
     (number ≡ old.steps + 1) × (FollowsAt old.settings old.run kind at found left → ⊥)
 IsStrayFault old kind at found left (fault.Call number) = ⊥
@@ -218,12 +218,12 @@ pub record AreIn (s : Settings) (events rest : List Event) (d : CheckState) : Ty
 
 -- calls of which this is kept are legal, and take effect there
 pub record AreJudged (kept : List CheckedCall) (points : List Point) : Type 0 where
-  pub legal : (s : Settings) (calls : List Call) → AreKept s calls kept → All (IsLegal s) calls
-  pub order : (s : Settings) (calls : List Call) → AreKept s calls kept → IsOrder s calls points
+  pub legal : (s : Settings) (calls : List RunCall) → AreKept s calls kept → All (IsLegal s) calls
+  pub order : (s : Settings) (calls : List RunCall) → AreKept s calls kept → IsOrder s calls points
 
 -- of those the call of that number is the first that isn't legal
 pub record IsIllegalAt (kept : List CheckedCall) (number : ℕ) : Type 0 where
-  pub first : (s : Settings) (calls : List Call) →
+  pub first : (s : Settings) (calls : List RunCall) →
       AreKept s calls kept → IsFirstIllegal s calls number
 
 abbrev pub IsIllegalFault : List CheckedCall → RunFault → Type 0

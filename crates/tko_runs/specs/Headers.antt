@@ -3,7 +3,7 @@ use Rattle.std.specs.Prelude.{◌≡◌, ℕ, List, ◌∷◌, Option, Some, Non
 use Rattle.tko_runs.specs.declared.schedule.fault.ScheduleFault.{ScheduleFault}
 use Rattle.tko_runs.specs.declared.schedule.fault.ScheduleFault.TheVariants as fault
 use Rattle.tko_bytes.specs.Lines.{lines_of}
-use Rattle.tko_runs.specs.Schedules.{line_at}
+use Rattle.tko_runs.specs.Schedules.{schedule_line_at}
 
 -- the text begins with a line of this form and value, and this is the rest
 pub record HasLine
@@ -18,4 +18,4 @@ pub record LacksLine
     {A : Type 0} (number : ℕ) (form : List ℕ → Option A) (text : List ℕ) (told : ScheduleFault)
     : Type 0 where
   pub bad : told ≡ fault.Line number
-  pub is : form (line_at (lines_of text) 0) ≡ None
+  pub is : form (schedule_line_at (lines_of text) 0) ≡ None

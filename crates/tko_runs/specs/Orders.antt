@@ -12,12 +12,12 @@ use Rattle.tko_runs.specs.declared.checking.RunFault.TheVariants as fault
 use Rattle.tko_runs.specs.States.{RunState, calls_in, claimed, opened_state, state_after}
 use Rattle.tko_runs.specs.Words.{CanLeave, room_at}
 use Rattle.tko_runs.specs.Runs.{RunData}
-use Rattle.tko_steps.specs.declared.step.Kind.{Kind}
+use Rattle.tko_steps.specs.declared.step.StepKind.{StepKind}
 use Rattle.tko_steps.specs.declared.step.Place.{Place}
 use Rattle.tko_steps.specs.declared.step.Word.{Word}
 use Rattle.tko_steps.specs.Core.{word_at}
-use Rattle.tko_steps.specs.Legal.{IsLegal, IsLegalAt, IsQuiet, TakesEffect}
-use Rattle.tko_steps.specs.Runs.{Call, OwnStep, steps_in}
+use Rattle.tko_steps.specs.Legal.{ChangesNothing, IsLegal, IsLegalAt, TakesEffect}
+use Rattle.tko_steps.specs.Runs.{OwnStep, RunCall, steps_in}
 
 -- Steps, by the words that they find and leave.
 
@@ -25,7 +25,7 @@ use Rattle.tko_steps.specs.Runs.{Call, OwnStep, steps_in}
 pub record FollowsAt
     (s : Settings)
     (state : RunState)
-    (kind : Kind)
+    (kind : StepKind)
     (at : Place)
     (found left : Word) : Type 0 where
   pub finds : found ≡ word_at state.words at
@@ -56,16 +56,17 @@ pub record IsFirstStray (s : Settings) (events : List Event) (number : ℕ) : Ty
 
 -- the last own step at which the call is legal: with this reply it takes effect there, its other
 -- steps are quiet, and there is no such step after it
-pub record IsLastLegalAt (s : Settings) (call : Call) (reply : Reply) (own : OwnStep) : Type 0 where
+pub record IsLastLegalAt (s : Settings) (call : RunCall) (reply : Reply) (own : OwnStep)
+    : Type 0 where
   pub newer : List OwnStep
   pub older : List OwnStep
   pub steps : call.steps ≡ newer ++ own ∷ older
   pub effect : TakesEffect s call reply own.step
-  pub others : All IsQuiet (newer ++ older)
+  pub others : All ChangesNothing (newer ++ older)
   pub last : All (λ other. IsLegalAt s call reply other → ⊥) newer
 
 -- where a legal call takes effect: at the step of a number, or it lost every try, or it is open
-abbrev pub IsPoint : Settings → Call → Point → Type 0
+abbrev pub IsPoint : Settings → RunCall → Point → Type 0
 IsPoint s call (point.At number) =
     (reply : Reply) × (own : OwnStep) × (call.answer ≡ Some reply) × (reply ≢ Contended)
     × IsLastLegalAt s call reply own × (own.at ≡ number)
@@ -73,7 +74,7 @@ IsPoint s call point.Contended = call.answer ≡ Some Contended
 IsPoint s call point.Open = call.answer ≡ None
 
 -- where each of the calls takes effect
-abbrev pub IsOrder : Settings → List Call → List Point → Type 0
+abbrev pub IsOrder : Settings → List RunCall → List Point → Type 0
 IsOrder s [] [] = Unit {0}
 IsOrder s [] (at_point ∷ others) = ⊥
 IsOrder s (call ∷ calls) [] = ⊥
@@ -84,10 +85,10 @@ abbrev pub IsOrderOf : RunData → List Point → Type 0
 IsOrderOf run points = IsOrder run.settings (calls_in run.settings run.events) points
 
 -- the first call that isn't legal is that one, counted from 1
-pub record IsFirstIllegal (s : Settings) (calls : List Call) (number : ℕ) : Type 0 where
-  pub before : List Call
-  pub illegal : Call
-  pub after : List Call
+pub record IsFirstIllegal (s : Settings) (calls : List RunCall) (number : ℕ) : Type 0 where
+  pub before : List RunCall
+  pub illegal : RunCall
+  pub after : List RunCall
   pub split : calls ≡ before ++ illegal ∷ after
   pub place : number ≡ length before + 1
   pub others : All (IsLegal s) before
@@ -109,12 +110,12 @@ IsRunFault run (fault.Call number) =
 IsRunFault run fault.Memory = Unit {0}
 
 -- the number of the step at which the call of that number, from 1, takes effect
-abbrev pub step_of : Option Point → Option ℕ
-step_of None = None
-step_of (Some (point.At number)) = Some number
-step_of (Some point.Contended) = None
-step_of (Some point.Open) = None
+abbrev pub point_step : Option Point → Option ℕ
+point_step None = None
+point_step (Some (point.At number)) = Some number
+point_step (Some point.Contended) = None
+point_step (Some point.Open) = None
 
-abbrev pub number_at : List Point → ℕ → Option ℕ
-number_at points zero = None
-number_at points (suc place) = step_of (slice_get points place)
+abbrev pub point_number_at : List Point → ℕ → Option ℕ
+point_number_at points zero = None
+point_number_at points (suc place) = point_step (slice_get points place)

@@ -39,29 +39,30 @@ abbrev pub with_skips : Played → SkippedTurn → ℕ → Played
 with_skips p turn times = record p { skips = p.skips ++ replicate times (skip_of p turn) }
 
 -- after a begin: it is an event, or a skipped turn
-abbrev pub with_begin : Played → ℕ → Op → ℕ → Option BeginFault → Played
-with_begin p thread op server None = with_event p (event.Begin thread op server)
-with_begin p thread op server (Some fault) = with_skip p (skipped.Refused thread op server fault)
+abbrev pub played_begin : Played → ℕ → Op → ℕ → Option BeginFault → Played
+played_begin p thread op server None = with_event p (event.Begin thread op server)
+played_begin p thread op server (Some fault) = with_skip p (skipped.Refused thread op server fault)
 
 -- after a step: it is an event, or a skipped turn
-abbrev pub with_step : Played → ℕ → Stepped → Played
-with_step p thread NoThread = with_skip p (skipped.NoThread thread)
-with_step p thread Idle = with_skip p (skipped.Idle thread)
-with_step p thread (Did kind place found left won answer) =
+abbrev pub played_step : Played → ℕ → Stepped → Played
+played_step p thread NoThread = with_skip p (skipped.NoThread thread)
+played_step p thread Idle = with_skip p (skipped.Idle thread)
+played_step p thread (Did kind place found left won answer) =
     with_event p (event.Step thread kind place found left answer)
 
 -- after one turn of the core
 abbrev pub after_turn : Played → Turn → Played
 after_turn p (Begin thread op server) =
-    record (with_begin p thread op server (begin_fault p.core thread server)) {
+    record (played_begin p thread op server (begin_fault p.core thread server)) {
       core = after_begin p.core thread op server;
     }
 after_turn p (Step thread) =
-    record (with_step p thread (reported_by_step p.core thread)) { core = after_step p.core thread }
+    record (played_step p thread (reported_by_step p.core thread))
+    { core = after_step p.core thread }
 
-abbrev pub after_all : Played → List Turn → Played
-after_all p [] = p
-after_all p (turn ∷ turns) = after_all (after_turn p turn) turns
+abbrev pub after_all_turns : Played → List Turn → Played
+after_all_turns p [] = p
+after_all_turns p (turn ∷ turns) = after_all_turns (after_turn p turn) turns
 
 -- how many steps a thread takes until it has no call, or the bound if it still has one then
 unfoldable pub steps_to_answer : ℕ → CoreState → ℕ → ℕ
@@ -72,14 +73,14 @@ steps_to_answer (suc most) core thread =
     else 0
 
 -- the turns that a command asks for
-abbrev pub turns_of : CoreState → Command → List Turn
-turns_of core (command.Begin thread op server) = Begin thread op server ∷ []
-turns_of core (command.Step thread steps) = replicate steps (Step thread)
-turns_of core (command.Run thread) =
+abbrev pub command_turns : CoreState → Command → List Turn
+command_turns core (command.Begin thread op server) = Begin thread op server ∷ []
+command_turns core (command.Step thread steps) = replicate steps (Step thread)
+command_turns core (command.Run thread) =
     replicate (steps_to_answer max_steps core thread) (Step thread)
 
 abbrev pub after_command : Played → Command → Played
-after_command p command = after_all p (turns_of p.core command)
+after_command p command = after_all_turns p (command_turns p.core command)
 
 abbrev pub after_commands : Played → List Command → Played
 after_commands p [] = p
@@ -94,7 +95,7 @@ abbrev pub opened_play : Settings → Played
 opened_play s = record { core = opened_core s; events = []; skips = [] }
 
 abbrev pub enrolled : Settings → Played
-enrolled s = after_all (opened_play s) (enrolments s.threads)
+enrolled s = after_all_turns (opened_play s) (enrolments s.threads)
 
 abbrev pub played : Plan → Played
 played plan = after_commands (enrolled plan.settings) plan.commands

@@ -19,15 +19,15 @@ use Rattle.tko_runs.specs.Runs.{Skip, RunData}
 use Rattle.tko_model.specs.Texts.{mark_text, op_text, reply_text}
 use Rattle.tko_steps.specs.declared.step.BeginFault.{BeginFault}
 use Rattle.tko_steps.specs.declared.step.BeginFault.TheVariants as fault
-use Rattle.tko_steps.specs.declared.step.Kind.{Kind}
-use Rattle.tko_steps.specs.declared.step.Kind.TheVariants as kind
+use Rattle.tko_steps.specs.declared.step.StepKind.{StepKind}
+use Rattle.tko_steps.specs.declared.step.StepKind.TheVariants as kind
 use Rattle.tko_steps.specs.declared.step.Place.{Place}
 use Rattle.tko_steps.specs.declared.step.Place.TheVariants as place
 use Rattle.tko_steps.specs.declared.phase.Slots.{Slots}
 use Rattle.tko_steps.specs.declared.step.Word.{Word}
 use Rattle.tko_steps.specs.declared.step.Word.TheVariants as word
 use Rattle.tko_steps.specs.Core.{is_call_step}
-use Rattle.tko_steps.specs.Runs.{count_of}
+use Rattle.tko_steps.specs.Runs.{step_count_of}
 
 abbrev pub line : List ℕ → List ℕ
 line text = text ++ line_feed ∷ []
@@ -48,7 +48,7 @@ place_text form (place.Server server) = codes "server:" ++ decimal server
 place_text form (place.Soft group) = group_text form group
 place_text form place.Enrolment = codes "enrolment"
 
-abbrev pub kind_text : Kind → List ℕ
+abbrev pub kind_text : StepKind → List ℕ
 kind_text kind.Look = codes " look "
 kind_text kind.Count = codes " count "
 kind_text kind.Mark = codes " mark "
@@ -74,15 +74,15 @@ abbrev pub won_text : Word → Word → List ℕ
 won_text found left = if same_word left found then codes "lost" else codes "won"
 
 -- the end of a step's line: what a look found, whether an exchange was won, else that it is done
-abbrev pub outcome_text : Kind → Word → Word → List ℕ
-outcome_text kind.Look found left = word_text found
-outcome_text kind.Count found left = won_text found left
-outcome_text kind.Mark found left = won_text found left
-outcome_text kind.Own found left = won_text found left
-outcome_text kind.Reserve found left = won_text found left
-outcome_text kind.Shift found left = codes "done"
-outcome_text kind.Give found left = codes "done"
-outcome_text kind.Enrol found left = codes "done"
+abbrev pub step_outcome_text : StepKind → Word → Word → List ℕ
+step_outcome_text kind.Look found left = word_text found
+step_outcome_text kind.Count found left = won_text found left
+step_outcome_text kind.Mark found left = won_text found left
+step_outcome_text kind.Own found left = won_text found left
+step_outcome_text kind.Reserve found left = won_text found left
+step_outcome_text kind.Shift found left = codes "done"
+step_outcome_text kind.Give found left = codes "done"
+step_outcome_text kind.Enrol found left = codes "done"
 
 -- the line after a step that ends its call
 abbrev pub answer_text : ℕ → Option Reply → List ℕ
@@ -91,7 +91,7 @@ answer_text thread (Some reply) =
     line (codes "answer " ++ (decimal thread ++ (codes " " ++ reply_text reply)))
 
 -- the front of a step's line: its number, thread, kind and place
-abbrev pub step_text : Version → ℕ → ℕ → Kind → Place → List ℕ
+abbrev pub step_text : Version → ℕ → ℕ → StepKind → Place → List ℕ
 step_text form number thread kind at =
     decimal number
     ++ (codes " " ++ (decimal thread ++ (kind_text kind ++ (place_text form at ++ codes " "))))
@@ -102,24 +102,24 @@ event_text form number (event.Begin thread op server) = line (begin_text thread 
 event_text form number (event.Step thread kind at found left answer) =
     if is_call_step kind
     then step_text form number thread kind at
-    ++ (line (outcome_text kind found left) ++ answer_text thread answer)
+    ++ (line (step_outcome_text kind found left) ++ answer_text thread answer)
     else []
 
 -- the number of steps of calls that an event is: enrolments aren't numbered
-abbrev pub steps_of : Event → ℕ
-steps_of (event.Begin thread op server) = 0
-steps_of (event.Step thread kind at found left answer) = count_of kind
+abbrev pub steps_in_event : Event → ℕ
+steps_in_event (event.Begin thread op server) = 0
+steps_in_event (event.Step thread kind at found left answer) = step_count_of kind
 
 -- the number after those of the events
 abbrev pub number_behind : ℕ → List Event → ℕ
 number_behind number [] = number
-number_behind number (event ∷ events) = number_behind (number + steps_of event) events
+number_behind number (event ∷ events) = number_behind (number + steps_in_event event) events
 
 -- the events, from that number on
 abbrev pub events_text : Version → ℕ → List Event → List ℕ
 events_text form number [] = []
 events_text form number (event ∷ events) =
-    event_text form number event ++ events_text form (number + steps_of event) events
+    event_text form number event ++ events_text form (number + steps_in_event event) events
 
 abbrev pub refusal_text : BeginFault → List ℕ
 refusal_text fault.NoThread = codes " refused no-thread"
@@ -158,11 +158,11 @@ order_text number (one ∷ others) =
     line (codes "call " ++ (decimal number ++ point_text one)) ++ order_text (number + 1) others
 
 -- the servers from that number on
-abbrev pub servers_text : ℕ → List ServerState → List ℕ
-servers_text number [] = []
-servers_text number (server ∷ others) =
+abbrev pub run_servers_text : ℕ → List ServerState → List ℕ
+run_servers_text number [] = []
+run_servers_text number (server ∷ others) =
     line (codes "server " ++ (decimal number ++ (codes " " ++ state_text server)))
-    ++ servers_text (number + 1) others
+    ++ run_servers_text (number + 1) others
 
 -- the soft words of the groups from that number on
 abbrev pub soft_words_text : Version → ℕ → List Slots → List ℕ
@@ -176,5 +176,5 @@ run_text run order =
     let words = (state_after_all (opened_state run.settings) run.events).words in
     lines_text run.version 1 0 run.events run.skips
     ++ (order_text 1 order
-    ++ (servers_text 0 words.servers
+    ++ (run_servers_text 0 words.servers
     ++ (soft_words_text run.version 0 words.slots ++ line (codes "ok"))))

@@ -9,7 +9,7 @@ use Rattle.tko_model.specs.declared.mark.Op.TheVariants.{LookUp, SoftFailure, Ha
 use Rattle.tko_model.specs.declared.settings.SettingsFault.{SettingsFault}
 use Rattle.tko_model.specs.Ranges.{IsWithin, first_fault_in, is_within}
 use Rattle.tko_model.specs.Settings.{Settings, in_one_group}
-use Rattle.tko_runs.specs.declared.schedule.header.Counts.{Counts}
+use Rattle.tko_runs.specs.declared.schedule.header.HeaderSettings.{HeaderSettings}
 use Rattle.tko_runs.specs.declared.version.Version.{Version}
 use Rattle.tko_runs.specs.declared.version.Version.TheVariants.{One, Two, Three}
 use Rattle.tko_runs.specs.Versions.{header_lines, layout_of}
@@ -37,12 +37,12 @@ pub record IsPlan (plan : Plan) : Type 0 where
 -- The forms of lines.
 
 -- the number that a word writes
-abbrev pub value_of : List ℕ → Option ℕ
-value_of word = number_of max_number word
+abbrev pub number_written : List ℕ → Option ℕ
+number_written word = number_of max_number word
 
 -- the operation of that word
-abbrev pub op_of : List ℕ → Option Op
-op_of word =
+abbrev pub op_named : List ℕ → Option Op
+op_named word =
     find
     (λ op. bytes_eq word (op_text op))
     (LookUp ∷ SoftFailure ∷ HardFailure ∷ Success ∷ Release ∷ [])
@@ -55,9 +55,9 @@ begin_of (thread ∷ op ∷ []) = None
 begin_of (thread ∷ op ∷ server ∷ []) =
     option_and_then
     (λ thread. option_and_then
-    (λ op. option_map (λ server. Begin thread op server) (value_of server))
-    (op_of op))
-    (value_of thread)
+    (λ op. option_map (λ server. Begin thread op server) (number_written server))
+    (op_named op))
+    (number_written thread)
 begin_of (thread ∷ op ∷ server ∷ other ∷ others) = None
 
 -- the number of steps of one line
@@ -65,22 +65,22 @@ abbrev pub steps_of : List ℕ → Option ℕ
 steps_of word =
     option_and_then
     (λ steps. if is_within 1 max_steps steps then Some steps else None)
-    (value_of word)
+    (number_written word)
 
 -- `step <thread> <n>`, after its first word
-abbrev pub step_of : List (List ℕ) → Option Command
-step_of [] = None
-step_of (thread ∷ []) = None
-step_of (thread ∷ steps ∷ []) =
+abbrev pub step_command : List (List ℕ) → Option Command
+step_command [] = None
+step_command (thread ∷ []) = None
+step_command (thread ∷ steps ∷ []) =
     option_and_then
     (λ thread. option_map (λ steps. Step thread steps) (steps_of steps))
-    (value_of thread)
-step_of (thread ∷ steps ∷ other ∷ others) = None
+    (number_written thread)
+step_command (thread ∷ steps ∷ other ∷ others) = None
 
 -- `run <thread>`, after its first word
 abbrev pub run_of : List (List ℕ) → Option Command
 run_of [] = None
-run_of (thread ∷ []) = option_map (λ thread. Run thread) (value_of thread)
+run_of (thread ∷ []) = option_map (λ thread. Run thread) (number_written thread)
 run_of (thread ∷ other ∷ others) = None
 
 -- the command of a line with these words
@@ -88,7 +88,7 @@ abbrev pub command_of : List (List ℕ) → Option Command
 command_of [] = None
 command_of (name ∷ others) =
     if bytes_eq name (codes "begin") then begin_of others
-    else (if bytes_eq name (codes "step") then step_of others
+    else (if bytes_eq name (codes "step") then step_command others
     else (if bytes_eq name (codes "run") then run_of others else None))
 
 -- the command that a line is
@@ -110,14 +110,14 @@ version_in line =
     else (if bytes_eq line (codes "schedule 3") then Some Three else None))
 
 -- the number of a header line of this name: `<name> <number>`
-abbrev pub numbered : List ℕ → List (List ℕ) → Option ℕ
-numbered name [] = None
-numbered name (word ∷ []) = None
-numbered name (word ∷ number ∷ []) = if bytes_eq word name then value_of number else None
-numbered name (word ∷ number ∷ other ∷ others) = None
+abbrev pub numbered_line : List ℕ → List (List ℕ) → Option ℕ
+numbered_line name [] = None
+numbered_line name (word ∷ []) = None
+numbered_line name (word ∷ number ∷ []) = if bytes_eq word name then number_written number else None
+numbered_line name (word ∷ number ∷ other ∷ others) = None
 
 abbrev pub header_number : List ℕ → List ℕ → Option ℕ
-header_number name line = numbered name (fields_of line)
+header_number name line = numbered_line name (fields_of line)
 
 -- the numbers that words write, as fields hold them, where each word writes one
 abbrev pub values_of : List (List ℕ) → Option (List ℕ)
@@ -125,7 +125,7 @@ values_of [] = Some []
 values_of (word ∷ words) =
     option_and_then
     (λ value. option_map (λ others. in_field value ∷ others) (values_of words))
-    (value_of word)
+    (number_written word)
 
 -- the numbers of a header line of this name, one or more: `<name> <number> <number> ..`
 abbrev pub listed : List ℕ → List (List ℕ) → Option (List ℕ)
@@ -138,8 +138,8 @@ abbrev pub header_numbers : List ℕ → List ℕ → Option (List ℕ)
 header_numbers name line = listed name (fields_of line)
 
 -- a missing line reads as an empty one, which has no form
-abbrev pub line_at : List (List ℕ) → ℕ → List ℕ
-line_at lines place = slice_index_or lines place []
+abbrev pub schedule_line_at : List (List ℕ) → ℕ → List ℕ
+schedule_line_at lines place = slice_index_or lines place []
 
 -- what follows from the line of this number, counted from 1, where it has its form
 abbrev pub on_line : {A B : Type 0} →
@@ -154,11 +154,11 @@ on_lines (Err bad) next = Err bad
 on_lines (Ok value) next = next value
 
 -- the lines that each version has after the first: how many servers, threads and failures
-unfoldable pub counts_in : List (List ℕ) → Result Counts ScheduleFault
+unfoldable pub counts_in : List (List ℕ) → Result HeaderSettings ScheduleFault
 counts_in lines =
-    on_line 2 (header_number (codes "servers") (line_at lines 0)) (λ servers.
-    on_line 3 (header_number (codes "threads") (line_at lines 1)) (λ threads.
-    on_line 4 (header_number (codes "failures") (line_at lines 2)) (λ failures.
+    on_line 2 (header_number (codes "servers") (schedule_line_at lines 0)) (λ servers.
+    on_line 3 (header_number (codes "threads") (schedule_line_at lines 1)) (λ threads.
+    on_line 4 (header_number (codes "failures") (schedule_line_at lines 2)) (λ failures.
     Ok (record {
       servers = in_field servers;
       threads = in_field threads;
@@ -166,11 +166,11 @@ counts_in lines =
     }))))
 
 -- the lines after those, where all servers are in one group
-unfoldable pub one_group_in : Counts → List (List ℕ) → Result Settings ScheduleFault
+unfoldable pub one_group_in : HeaderSettings → List (List ℕ) → Result Settings ScheduleFault
 one_group_in counts lines =
-    on_line 5 (header_number (codes "limit") (line_at lines 0)) (λ limit.
-    on_line 6 (header_number (codes "tries") (line_at lines 1)) (λ tries.
-    on_line 7 (header_number (codes "stamp") (line_at lines 2)) (λ stamp.
+    on_line 5 (header_number (codes "limit") (schedule_line_at lines 0)) (λ limit.
+    on_line 6 (header_number (codes "tries") (schedule_line_at lines 1)) (λ tries.
+    on_line 7 (header_number (codes "stamp") (schedule_line_at lines 2)) (λ stamp.
     Ok (in_one_group (record {
       servers = counts.servers;
       threads = counts.threads;
@@ -181,7 +181,7 @@ one_group_in counts lines =
     })))))
 
 -- the settings with these limits and groups
-abbrev pub with_groups : Counts → List ℕ → List ℕ → ℕ → ℕ → Settings
+abbrev pub with_groups : HeaderSettings → List ℕ → List ℕ → ℕ → ℕ → Settings
 with_groups counts limits groups tries stamp =
     record {
       servers = counts.servers;
@@ -194,27 +194,27 @@ with_groups counts limits groups tries stamp =
     }
 
 -- the same lines, where each group has a limit and each server a group
-unfoldable pub groups_in : Counts → List (List ℕ) → Result Settings ScheduleFault
-groups_in counts lines =
-    on_line 5 (header_numbers (codes "limits") (line_at lines 0)) (λ limits.
-    on_line 6 (header_numbers (codes "groups") (line_at lines 1)) (λ groups.
-    on_line 7 (header_number (codes "tries") (line_at lines 2)) (λ tries.
-    on_line 8 (header_number (codes "stamp") (line_at lines 3)) (λ stamp.
+unfoldable pub several_groups_in : HeaderSettings → List (List ℕ) → Result Settings ScheduleFault
+several_groups_in counts lines =
+    on_line 5 (header_numbers (codes "limits") (schedule_line_at lines 0)) (λ limits.
+    on_line 6 (header_numbers (codes "groups") (schedule_line_at lines 1)) (λ groups.
+    on_line 7 (header_number (codes "tries") (schedule_line_at lines 2)) (λ tries.
+    on_line 8 (header_number (codes "stamp") (schedule_line_at lines 3)) (λ stamp.
     Ok (with_groups counts limits groups (in_field tries) stamp)))))
 
-abbrev pub settings_in : Version → Counts → List (List ℕ) → Result Settings ScheduleFault
+abbrev pub settings_in : Version → HeaderSettings → List (List ℕ) → Result Settings ScheduleFault
 settings_in One counts lines = one_group_in counts lines
-settings_in Two counts lines = groups_in counts lines
-settings_in Three counts lines = groups_in counts lines
+settings_in Two counts lines = several_groups_in counts lines
+settings_in Three counts lines = several_groups_in counts lines
 
-pub record Header : Type 0 where
+pub record ScheduleHeader : Type 0 where
   pub version : Version
   pub settings : Settings
 
 -- the version and the settings of the header lines, or the first that is bad or missing
-unfoldable pub header : List (List ℕ) → Result Header ScheduleFault
+unfoldable pub header : List (List ℕ) → Result ScheduleHeader ScheduleFault
 header lines =
-    on_line 1 (version_in (line_at lines 0)) (λ version.
+    on_line 1 (version_in (schedule_line_at lines 0)) (λ version.
     on_lines (counts_in (drop 1 lines)) (λ counts.
     on_lines (settings_in version counts (drop 4 lines)) (λ settings.
     Ok (record { version = version; settings = settings }))))
@@ -235,18 +235,20 @@ commands_of before lines =
 -- The whole text.
 
 -- settings outside their ranges give their first fault
-abbrev pub plan_of : Option SettingsFault → Header → List Command → Result Plan ScheduleFault
+abbrev pub plan_of : Option SettingsFault → ScheduleHeader → List Command
+    → Result Plan ScheduleFault
 plan_of (Some outside) head commands = Err (fault.Settings outside)
 plan_of None head commands =
     Ok (record { version = head.version; settings = head.settings; commands = commands })
 
-abbrev pub plan_behind : Header → Result (List Command) ScheduleFault → Result Plan ScheduleFault
+abbrev pub plan_behind : ScheduleHeader → Result (List Command) ScheduleFault
+    → Result Plan ScheduleFault
 plan_behind head (Err bad) = Err bad
 plan_behind head (Ok commands) =
     plan_of (first_fault_in (layout_of head.version) head.settings) head commands
 
 -- the lines are judged first, from the first to the last, and then the settings
-abbrev pub plan_in : Result Header ScheduleFault → List (List ℕ) → Result Plan ScheduleFault
+abbrev pub plan_in : Result ScheduleHeader ScheduleFault → List (List ℕ) → Result Plan ScheduleFault
 plan_in (Err bad) lines = Err bad
 plan_in (Ok head) lines =
     let before = header_lines head.version in

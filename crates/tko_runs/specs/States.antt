@@ -13,14 +13,14 @@ use Rattle.tko_runs.specs.declared.run.state.ThreadEntry.{ThreadEntry}
 use Rattle.tko_runs.specs.declared.run.state.ThreadEntry.TheVariants.{NotEnrolled, Idle, InCall}
 use Rattle.tko_runs.specs.Runs.{RunData}
 use Rattle.tko_steps.specs.declared.phase.Slots.{Slots}
-use Rattle.tko_steps.specs.declared.step.Kind.{Kind}
-use Rattle.tko_steps.specs.declared.step.Kind.TheVariants as kind
+use Rattle.tko_steps.specs.declared.step.StepKind.{StepKind}
+use Rattle.tko_steps.specs.declared.step.StepKind.TheVariants as kind
 use Rattle.tko_steps.specs.declared.step.Place.{Place}
 use Rattle.tko_steps.specs.declared.step.Place.TheVariants as place
 use Rattle.tko_steps.specs.declared.step.Word.{Word}
 use Rattle.tko_steps.specs.declared.step.Word.TheVariants as word
 use Rattle.tko_steps.specs.Core.{Shared, is_call_step, opened_words}
-use Rattle.tko_steps.specs.Runs.{Call, Began, Moment, Took, calls_of}
+use Rattle.tko_steps.specs.Runs.{RunCall, Began, Moment, Took, calls_of}
 use Rattle.tko_steps.specs.Table.{same_server, same_slots}
 
 -- The state after events.
@@ -38,21 +38,21 @@ abbrev pub entry_at : RunState → ℕ → ThreadEntry
 entry_at state thread = slice_index_or state.threads thread NotEnrolled
 
 -- the number that a thread drew; one that isn't enrolled has none
-abbrev pub number_of : ThreadEntry → ℕ
-number_of NotEnrolled = 0
-number_of (Idle number) = number
-number_of (InCall number server) = number
+abbrev pub entry_number : ThreadEntry → ℕ
+entry_number NotEnrolled = 0
+entry_number (Idle number) = number
+entry_number (InCall number server) = number
 
 -- an idle thread begins a call on a server
-abbrev pub in_call : ThreadEntry → ℕ → ThreadEntry
-in_call NotEnrolled server = NotEnrolled
-in_call (Idle number) server = InCall number server
-in_call (InCall number on) server = InCall number on
+abbrev pub entry_in_call : ThreadEntry → ℕ → ThreadEntry
+entry_in_call NotEnrolled server = NotEnrolled
+entry_in_call (Idle number) server = InCall number server
+entry_in_call (InCall number on) server = InCall number on
 
 abbrev pub with_begin : RunState → ℕ → ℕ → RunState
 with_begin state thread server =
     record state {
-      threads = slice_set state.threads thread (in_call (entry_at state thread) server);
+      threads = slice_set state.threads thread (entry_in_call (entry_at state thread) server);
     }
 
 -- a thread draws the number of those enrolled before it
@@ -64,19 +64,19 @@ with_enrolment state thread =
     }
 
 -- the servers once a step of a call left this word at that place
-abbrev pub written : List ServerState → Place → Word → List ServerState
-written servers (place.Server server) (word.Server left) = slice_set servers server left
-written servers at left = servers
+abbrev pub servers_written : List ServerState → Place → Word → List ServerState
+servers_written servers (place.Server server) (word.Server left) = slice_set servers server left
+servers_written servers at left = servers
 
 abbrev pub written_slots : List Slots → Place → Word → List Slots
 written_slots slots (place.Soft group) (word.Soft left) = slice_set slots group left
 written_slots slots at left = slots
 
-abbrev pub with_word : RunState → Place → Word → RunState
-with_word state at left =
+abbrev pub state_with_word : RunState → Place → Word → RunState
+state_with_word state at left =
     record state {
       words = record {
-        servers = written state.words.servers at left;
+        servers = servers_written state.words.servers at left;
         slots = written_slots state.words.slots at left;
         enrolled = state.words.enrolled;
       };
@@ -96,15 +96,15 @@ with_answer state thread answer =
     }
 
 -- after a step, by whether it is one of a call
-abbrev pub with_step : Bool → RunState → ℕ → Place → Word → Option Reply → RunState
-with_step true state thread at left answer =
-    with_answer (with_word state at left) thread answer
-with_step false state thread at left answer = with_enrolment state thread
+abbrev pub state_with_step : Bool → RunState → ℕ → Place → Word → Option Reply → RunState
+state_with_step true state thread at left answer =
+    with_answer (state_with_word state at left) thread answer
+state_with_step false state thread at left answer = with_enrolment state thread
 
 abbrev pub state_after : RunState → Event → RunState
 state_after state (Begin thread op server) = with_begin state thread server
 state_after state (Step thread kind at found left answer) =
-    with_step (is_call_step kind) state thread at left answer
+    state_with_step (is_call_step kind) state thread at left answer
 
 abbrev pub state_after_all : RunState → List Event → RunState
 state_after_all state [] = state
@@ -112,10 +112,10 @@ state_after_all state (event ∷ events) = state_after_all (state_after state ev
 
 -- Which event can come.
 
-abbrev pub IsIdle : ThreadEntry → Type 0
-IsIdle NotEnrolled = ⊥
-IsIdle (Idle number) = Unit {0}
-IsIdle (InCall number server) = ⊥
+abbrev pub IsThreadIdle : ThreadEntry → Type 0
+IsThreadIdle NotEnrolled = ⊥
+IsThreadIdle (Idle number) = Unit {0}
+IsThreadIdle (InCall number server) = ⊥
 
 abbrev pub HasCall : ThreadEntry → Type 0
 HasCall NotEnrolled = ⊥
@@ -133,8 +133,8 @@ HasGroup slots (place.Soft group) = group < length slots
 HasGroup slots at = Unit {0}
 
 -- there is such a place
-abbrev pub IsPlace : Shared → Place → Type 0
-IsPlace words at = HasServer words.servers at × HasGroup words.slots at
+abbrev pub HasPlace : Shared → Place → Type 0
+HasPlace words at = HasServer words.servers at × HasGroup words.slots at
 
 -- an enrolment finds how many threads are enrolled, leaves one more, and has no answer
 pub record IsEnrolment
@@ -149,7 +149,7 @@ pub record IsEnrolment
 abbrev pub CanStep : Bool → RunState → ℕ → Place → Word → Word → Option Reply → Type 0
 CanStep true state thread at found left answer =
     ((thread < length state.threads) × HasCall (entry_at state thread))
-    × IsPlace state.words at
+    × HasPlace state.words at
 CanStep false state thread at found left answer =
     ((thread < length state.threads) × (entry_at state thread ≡ NotEnrolled))
     × IsEnrolment state.words.enrolled at found left answer
@@ -157,7 +157,7 @@ CanStep false state thread at found left answer =
 -- the event can come next: a call is begun by an idle thread, on a server that is there
 abbrev pub CanCome : RunState → Event → Type 0
 CanCome state (Begin thread op server) =
-    ((thread < length state.threads) × IsIdle (entry_at state thread))
+    ((thread < length state.threads) × IsThreadIdle (entry_at state thread))
     × (server < length state.words.servers)
 CanCome state (Step thread kind at found left answer) =
     CanStep (is_call_step kind) state thread at found left answer
@@ -199,7 +199,7 @@ same_word (word.Enrolled one) (word.Enrolled other) = one == other
 same_word one other = false
 
 -- whether a step of this kind wrote: an exchange that is lost leaves the word that it found
-abbrev pub wrote : Kind → Word → Word → Bool
+abbrev pub wrote : StepKind → Word → Word → Bool
 wrote kind.Count found left = if same_word left found then false else true
 wrote kind.Mark found left = if same_word left found then false else true
 wrote kind.Own found left = if same_word left found then false else true
@@ -209,7 +209,7 @@ wrote other found left = true
 -- what happened, by that event
 abbrev pub moment_of : RunState → Event → Moment
 moment_of state (Begin thread op server) =
-    Began thread (number_of (entry_at state thread)) op server
+    Began thread (entry_number (entry_at state thread)) op server
 moment_of state (Step thread kind at found left answer) =
     Took
     (record {
@@ -248,5 +248,5 @@ unfoldable pub claimed : Settings → List Event → Claimed
 claimed s events = claimed_after_all (opened_claim s) events
 
 -- the calls of a claimed run, in the order of their begins
-unfoldable pub calls_in : Settings → List Event → List Call
+unfoldable pub calls_in : Settings → List Event → List RunCall
 calls_in s events = reverse (calls_of (claimed s events).past)

@@ -10,8 +10,8 @@ use Rattle.tko_word.specs.Words.{IsMarkOf, stamp_end}
 use Rattle.tko_steps.specs.declared.step.Place.{Place}
 use Rattle.tko_steps.specs.declared.step.Place.TheVariants as place
 use Rattle.tko_steps.specs.declared.phase.Slots.{Slots}
-use Rattle.tko_steps.specs.declared.step.Kind.{Kind}
-use Rattle.tko_steps.specs.declared.step.Kind.TheVariants as kind
+use Rattle.tko_steps.specs.declared.step.StepKind.{StepKind}
+use Rattle.tko_steps.specs.declared.step.StepKind.TheVariants as kind
 use Rattle.tko_steps.specs.declared.step.Word.{Word}
 use Rattle.tko_steps.specs.declared.step.Word.TheVariants as word
 use Rattle.tko_model.specs.Groups.{group_of, limit_of}
@@ -20,7 +20,7 @@ use Rattle.tko_steps.specs.Core.{slots_at}
 -- which kind of exchange leaves which mark in place of another: a count leaves an unmarked server
 -- unmarked, a mark marks it for a thread, softly while a slot is held, and an own step clears a
 -- mark or makes a soft one hard
-abbrev pub CanMark : Settings → ℕ → Kind → Mark → Mark → Type 0
+abbrev pub CanMark : Settings → ℕ → StepKind → Mark → Mark → Type 0
 CanMark s held by (Up old) (Up count) = by ≡ kind.Count
 CanMark s held by (Up old) (Soft thread) =
     (by ≡ kind.Mark) × (thread < s.threads) × (0 < held)
@@ -37,20 +37,20 @@ abbrev pub IsValid : Settings → ServerState → Type 0
 IsValid s server = IsMarkOf s server.mark × (server.stamp < stamp_end)
 
 -- an exchange of a server's word that is won: the stamp is one more, and the word is a valid one
-pub record IsExchange
-    (s : Settings) (held : ℕ) (kind : Kind) (found left : ServerState) : Type 0 where
+pub record IsWonExchange
+    (s : Settings) (held : ℕ) (kind : StepKind) (found left : ServerState) : Type 0 where
   pub mark : CanMark s held kind found.mark left.mark
   pub stamp : left.stamp ≡ found.stamp + 1
   pub valid : IsValid s left
 
 -- a lost exchange leaves the word as it was; an own step is never lost
-abbrev pub CanLeaveServer : Settings → ℕ → Kind → ServerState → ServerState → Type 0
+abbrev pub CanLeaveServer : Settings → ℕ → StepKind → ServerState → ServerState → Type 0
 CanLeaveServer s held kind.Look found left = left ≡ found
 CanLeaveServer s held kind.Count found left =
-    (left ≡ found) ⊎ IsExchange s held kind.Count found left
+    (left ≡ found) ⊎ IsWonExchange s held kind.Count found left
 CanLeaveServer s held kind.Mark found left =
-    (left ≡ found) ⊎ IsExchange s held kind.Mark found left
-CanLeaveServer s held kind.Own found left = IsExchange s held kind.Own found left
+    (left ≡ found) ⊎ IsWonExchange s held kind.Mark found left
+CanLeaveServer s held kind.Own found left = IsWonExchange s held kind.Own found left
 CanLeaveServer s held kind.Reserve found left = ⊥
 CanLeaveServer s held kind.Shift found left = ⊥
 CanLeaveServer s held kind.Give found left = ⊥
@@ -63,21 +63,21 @@ pub record IsReserved (limit : ℕ) (found left : Slots) : Type 0 where
   pub room : found.firm + found.held < limit
 
 -- a held slot became a settled mark
-pub record IsSettled (found left : Slots) : Type 0 where
+pub record IsSlotSettled (found left : Slots) : Type 0 where
   pub firm : left.firm ≡ found.firm + 1
   pub held : found.held ≡ left.held + 1
 
 -- one slot fewer is held
-pub record IsGiven (found left : Slots) : Type 0 where
+pub record IsSlotReleased (found left : Slots) : Type 0 where
   pub firm : left.firm ≡ found.firm
   pub held : found.held ≡ left.held + 1
 
 -- to loosen a settled mark is to undo its settling
-abbrev pub CanLeaveSlots : ℕ → Kind → Slots → Slots → Type 0
+abbrev pub CanLeaveSlots : ℕ → StepKind → Slots → Slots → Type 0
 CanLeaveSlots limit kind.Look found left = left ≡ found
 CanLeaveSlots limit kind.Reserve found left = (left ≡ found) ⊎ IsReserved limit found left
-CanLeaveSlots limit kind.Shift found left = IsSettled found left ⊎ IsSettled left found
-CanLeaveSlots limit kind.Give found left = IsGiven found left
+CanLeaveSlots limit kind.Shift found left = IsSlotSettled found left ⊎ IsSlotSettled left found
+CanLeaveSlots limit kind.Give found left = IsSlotReleased found left
 CanLeaveSlots limit kind.Count found left = ⊥
 CanLeaveSlots limit kind.Mark found left = ⊥
 CanLeaveSlots limit kind.Own found left = ⊥
@@ -90,12 +90,12 @@ group_at s (place.Soft group) = group
 group_at s place.Enrolment = 0
 
 -- how many slots of a group are held, and how many marks and slots it may have
-pub record Room : Type 0 where
+pub record GroupLimits : Type 0 where
   pub held : ℕ
   pub limit : ℕ
 
 -- that of the group of a place
-abbrev pub room_at : Settings → List Slots → Place → Room
+abbrev pub room_at : Settings → List Slots → Place → GroupLimits
 room_at s slots at =
     record {
       held = (slots_at slots (group_at s at)).held;
@@ -103,7 +103,7 @@ room_at s slots at =
     }
 
 -- a step of this kind can leave this of a word, where the group of the word has this room
-abbrev pub CanLeave : Settings → Room → Kind → Word → Word → Type 0
+abbrev pub CanLeave : Settings → GroupLimits → StepKind → Word → Word → Type 0
 CanLeave s room by (word.Server found) (word.Server left) = CanLeaveServer s room.held by found left
 CanLeave s room by (word.Server found) (word.Soft left) = ⊥
 CanLeave s room by (word.Server found) (word.Enrolled left) = ⊥

@@ -1,6 +1,6 @@
 //! The text of a run.
 ghost use Rattle.std.specs.Prelude.{◌≡◌, ◌++◌, ◌+◌, ◌<◌, ◌^◌, length, IfOk, OnOk};
-ghost use Rattle.tko_runs.specs.Prints.{events_text, lines_text, number_behind, run_text, skipped_text, steps_of};
+ghost use Rattle.tko_runs.specs.Prints.{events_text, lines_text, number_behind, run_text, skipped_text, steps_in_event};
 ghost use Rattle.tko_runs.specs.Repeats.{repeated};
 ghost use Rattle.tko_runs.specs.Runs.{one_by_one};
 ghost use Rattle.tko_runs.specs.States.{AllCome, opened_state, state_after_all};
@@ -12,7 +12,7 @@ mod words;
 use crate::printing::lines::{append_event, append_skipped_turn};
 use crate::printing::summary::{append_order, append_servers, append_soft_words};
 use crate::run::SkippedTurns;
-use crate::run::state::State;
+use crate::run::state::RunWords;
 use crate::{Event, Order, Run, SkippedTurn, Version};
 use std::alloc::Global;
 use tko_bytes::NoMemory;
@@ -83,7 +83,7 @@ fn append_events(
 
 /// The number of steps of calls that an event is.
 fn steps_of(event: &Event) -> u64
-    ensures { result ≡ steps_of event.now }
+    ensures { result ≡ steps_in_event event.now }
 {
     match *event {
         Event::Begin { .. } => 0,
@@ -103,12 +103,12 @@ fn append_skipped(out: &mut Vec<u8>, turn: SkippedTurn, times: u64) -> Result<()
 }
 
 /// The words and threads as the events leave them.
-fn state_left(alloc: Global, settings: &Settings, events: &[Event]) -> Result<State, NoMemory>
+fn state_left(alloc: Global, settings: &Settings, events: &[Event]) -> Result<RunWords, NoMemory>
     requires { AllCome (opened_state settings.now) events.now }
     ensures { IfOk result (λ state.
         state ≡ state_after_all (opened_state settings.now) events.now) }
 {
-    let mut state = State::open(alloc, settings)?;
+    let mut state = RunWords::open(alloc, settings)?;
     for event in events {
         state.record(event);
     }

@@ -57,26 +57,26 @@ pub record HasPage (addresses : List (List ℕ)) (before after : List ℕ) : Typ
   pub body : after ≡ before ++ page
 
 -- the response is this answer; nothing but a page has a body
-pub record IsAnswer (answer : Answer) (response : Response) : Type 0 where
+pub record IsPageAnswer (answer : Answer) (response : Response) : Type 0 where
   pub status : response.status ≡ status_of answer
   pub fields : fields_of response ≡ fields_for answer
   pub body : answer ≢ Page → response.body.items ≡ []
 
 -- the answer to the method and the path of a request
-abbrev pub answer_of : Request (List ℕ) → Answer
-answer_of request = answer_to (head_of request).method (uri_path (head_of request).uri)
+abbrev pub page_answer : Request (List ℕ) → Answer
+page_answer request = answer_to (head_of request).method (uri_path (head_of request).uri)
 
 -- the response is the answer to the request
-abbrev pub Answers : Request (List ℕ) → Response → Type 0
-Answers request response = IsAnswer (answer_of request) response
+abbrev pub AnswersScrape : Request (List ℕ) → Response → Type 0
+AnswersScrape request response = IsPageAnswer (page_answer request) response
 
 -- the same of a request and its response
-abbrev pub IsAnswered : Call → Type 0
-IsAnswered call = Answers call.0 call.1
+abbrev pub IsScrapeAnswered : Call → Type 0
+IsScrapeAnswered call = AnswersScrape call.0 call.1
 
 -- the response is the answer to the request, and the page is one of servers of these addresses
-pub record Shows (addresses : List (List ℕ)) (request : Request (List ℕ))
+pub record ShowsPage (addresses : List (List ℕ)) (request : Request (List ℕ))
     (response : Response) : Type 0
   where
-    pub answer : Answers request response
-    pub page : answer_of request ≡ Page → HasPage addresses [] response.body.items
+    pub answer : AnswersScrape request response
+    pub page : page_answer request ≡ Page → HasPage addresses [] response.body.items

@@ -3,7 +3,7 @@ ghost use Rattle.std.specs.Prelude.{◌↔◌, ◌-◌, ◌*◌, ◌≤◌, IsTr
 ghost use Rattle.std.specs.Time.{instant_nanos};
 
 use crate::pages::Pages;
-use crate::visit::{Turn, Visit, after};
+use crate::visit::{CallEnd, PageExchange, after};
 use std::alloc::Global;
 use std::io;
 use std::io::Read;
@@ -18,8 +18,8 @@ const GRACE: u64 = 100;
 
 /// Where a client stands.
 #[derive(Drop)]
-enum Stage {
-    Asks(Visit),
+enum PageStage {
+    Asks(PageExchange),
     /// It has its answer. What it still sends is read, since a connection that is closed with
     /// unread bytes is reset, and a reset may overtake the answer.
     Leaves,
@@ -27,20 +27,20 @@ enum Stage {
 
 /// A client, its socket, and the moment at which it came.
 #[derive(Drop)]
-pub(crate) struct Guest {
+pub(crate) struct PageClient {
     stream: TcpStream,
     came: Instant,
-    stage: Stage,
+    stage: PageStage,
 }
 
-impl Guest {
-    pub(crate) fn new(alloc: Global, stream: TcpStream, came: Instant) -> io::Result<Guest> {
+impl PageClient {
+    pub(crate) fn new(alloc: Global, stream: TcpStream, came: Instant) -> io::Result<PageClient> {
         stream.set_nonblocking(true)?;
         stream.set_nodelay(true)?;
-        Ok(Guest {
+        Ok(PageClient {
             stream,
             came,
-            stage: Stage::Asks(Visit::new(alloc)?),
+            stage: PageStage::Asks(PageExchange::new(alloc)?),
         })
     }
 
@@ -61,32 +61,32 @@ impl Guest {
     }
 
     /// One call of the system, and what follows from it.
-    pub(crate) fn turn(&mut self, pages: &mut Pages<'_>) -> Turn {
+    pub(crate) fn turn(&mut self, pages: &mut Pages<'_>) -> CallEnd {
         let (mut reader, mut writer) = (&self.stream, &self.stream);
         match &mut self.stage {
-            Stage::Asks(visit) => match visit.turn(pages, &mut reader, &mut writer) {
-                Turn::Done => self.leave(),
+            PageStage::Asks(visit) => match visit.turn(pages, &mut reader, &mut writer) {
+                CallEnd::Done => self.leave(),
                 turn => turn,
             },
-            Stage::Leaves => drain(&mut reader),
+            PageStage::Leaves => drain(&mut reader),
         }
     }
 
     /// Tells the client that nothing follows its answer.
-    fn leave(&mut self) -> Turn {
-        self.stage = Stage::Leaves;
+    fn leave(&mut self) -> CallEnd {
+        self.stage = PageStage::Leaves;
         match self.stream.shutdown(Shutdown::Write) {
-            Ok(()) => Turn::Moved,
-            Err(_) => Turn::Broken,
+            Ok(()) => CallEnd::Moved,
+            Err(_) => CallEnd::Broken,
         }
     }
 }
 
 /// Reads once what nobody asks for, and is done where nothing follows.
-fn drain<R: Read>(reader: &mut R) -> Turn {
+fn drain<R: Read>(reader: &mut R) -> CallEnd {
     let mut rest = [0u8; 4096];
     match reader.read(&mut rest) {
-        Ok(0) => Turn::Done,
+        Ok(0) => CallEnd::Done,
         read => after(&read),
     }
 }

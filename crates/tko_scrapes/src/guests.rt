@@ -2,9 +2,9 @@
 ghost use Rattle.std.specs.Prelude.{◌≡◌, ◌<◌, ◌≤◌, length};
 ghost use Rattle.tko_scrapes.specs.declared.guests.TheConstants.{MOST};
 
-use crate::guest::Guest;
+use crate::guest::PageClient;
 use crate::pages::Pages;
-use crate::visit::Turn;
+use crate::visit::CallEnd;
 use std::alloc::Global;
 use std::time::Instant;
 
@@ -15,7 +15,7 @@ const MOST: usize = 8;
 /// The clients that are connected, those first that came first.
 #[derive(Drop)]
 pub(crate) struct Guests {
-    guests: Vec<Guest>,
+    guests: Vec<PageClient>,
     ghost few: { length guests.items ≤ MOST },
 }
 
@@ -36,7 +36,7 @@ impl Guests {
 
     /// Adds a client, and closes the first one where there is no place for both. Where memory runs
     /// out, the new one is closed.
-    pub(crate) fn add(&mut self, guest: Guest)
+    pub(crate) fn add(&mut self, guest: PageClient)
         ensures { length self.new.guests.items ≤ MOST }
     {
         if self.guests.len() == MOST {
@@ -55,17 +55,17 @@ impl Guests {
             }
             let mut guest = self.guests.remove(0);
             let turn = guest.turn(pages);
-            has_moved = has_moved || turn == Turn::Moved;
+            has_moved = has_moved || turn == CallEnd::Moved;
             self.keep(guest, turn, now);
         }
         has_moved
     }
 
     /// Puts a client back behind the others, unless it is to be closed.
-    fn keep(&mut self, guest: Guest, turn: Turn, now: Instant)
+    fn keep(&mut self, guest: PageClient, turn: CallEnd, now: Instant)
         requires { length self.old.guests.items < MOST }
     {
-        let stays = matches!(turn, Turn::Moved | Turn::Waits) && !guest.is_late(now);
+        let stays = matches!(turn, CallEnd::Moved | CallEnd::Waits) && !guest.is_late(now);
         if stays {
             let _ = self.guests.push(guest);
         }

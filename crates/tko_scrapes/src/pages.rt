@@ -21,10 +21,10 @@ pub(crate) struct Pages<'a> {
 
 impl Service for Pages<'_> {
     ghost use Rattle.std.specs.Prelude.{map, string_bytes};
-    ghost use Rattle.tko_scrapes.specs.Pages.{Shows};
+    ghost use Rattle.tko_scrapes.specs.Pages.{ShowsPage};
 
     ghost answers = { λ old request response new.
-        Shows (map string_bytes old.addresses.now) request response };
+        ShowsPage (map string_bytes old.addresses.now) request response };
 
     fn call(
         &mut self,

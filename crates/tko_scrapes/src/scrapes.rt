@@ -1,6 +1,6 @@
 //! The thread that answers for the metrics.
 
-use crate::guest::Guest;
+use crate::guest::PageClient;
 use crate::guests::Guests;
 use crate::pages::Pages;
 use std::alloc::{AllocError, Global};
@@ -89,7 +89,7 @@ impl Scrapes {
         let Ok((stream, _)) = self.listener.accept() else {
             return false;
         };
-        if let Ok(guest) = Guest::new(alloc, stream, now) {
+        if let Ok(guest) = PageClient::new(alloc, stream, now) {
             guests.add(guest);
         }
         true

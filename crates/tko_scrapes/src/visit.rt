@@ -3,7 +3,7 @@ ghost use Rattle.std.specs.Prelude.{◌≡◌, ◌↔◌, ℕ, List, ◌++◌, A
 ghost use Rattle.std.specs.Io.KnownBytes.{Appends, Consumes};
 ghost use Rattle.http_server.specs.Connection.{config_of, history};
 ghost use Rattle.http_server.specs.History.{IsDone, Rests, new_history};
-ghost use Rattle.tko_scrapes.specs.Pages.{IsAnswered};
+ghost use Rattle.tko_scrapes.specs.Pages.{IsScrapeAnswered};
 ghost use Rattle.tko_scrapes.specs.Visits.{limits};
 
 use crate::pages::Pages;
@@ -35,7 +35,7 @@ const LIMITS: Config = Config {
 
 /// What became of a client by one call of the system.
 #[derive(Clone, Copy, Debug, PartialEq, Eq)]
-pub(crate) enum Turn {
+pub(crate) enum CallEnd {
     /// Bytes were moved.
     Moved,
     /// The client has sent nothing more, or takes nothing more now.
@@ -49,10 +49,10 @@ pub(crate) enum Turn {
 /// One client's request and the answer to it. What is read and what is written goes through the
 /// ends that each turn is given.
 #[derive(Drop)]
-pub(crate) struct Visit {
+pub(crate) struct PageExchange {
     connection: Connection,
     ghost bounded: { config_of connection ≡ limits },
-    ghost answered: { All IsAnswered (history connection).calls },
+    ghost answered: { All IsScrapeAnswered (history connection).calls },
 }
 
 /// Keys for the tables of a request's headers. A request has few headers, so it does not matter
@@ -65,13 +65,13 @@ impl RandomSource for KnownKeys {
     }
 }
 
-impl Visit {
+impl PageExchange {
     /// A client that has sent nothing yet.
-    pub(crate) fn new(alloc: Global) -> io::Result<Visit>
+    pub(crate) fn new(alloc: Global) -> io::Result<PageExchange>
         ensures { IfOk result (λ visit. history visit.connection ≡ new_history) }
     {
         let keys = RandomState::new(&KnownKeys)?;
-        Ok(Visit {
+        Ok(PageExchange {
             connection: Connection::new(alloc, keys, LIMITS),
         })
     }
@@ -82,7 +82,7 @@ impl Visit {
         pages: &mut Pages<'_>,
         reader: &mut R,
         writer: &mut W,
-    ) -> Turn
+    ) -> CallEnd
         ensures done { (result ≡ Turn.Done) ↔ IsDone (history self.new.connection) }
         ensures rests { Rests (config_of self.new.connection) (history self.new.connection) }
         ensures read { (more : List ℕ)
@@ -96,7 +96,7 @@ impl Visit {
         let moved = self.move_bytes(reader, writer);
         self.connection.advance(pages);
         if self.connection.is_done() {
-            return Turn::Done;
+            return CallEnd::Done;
         }
         after(&moved)
     }
@@ -120,14 +120,14 @@ impl Visit {
 }
 
 /// What a call of the system means for a client that is not done.
-pub(crate) fn after(moved: &io::Result<usize>) -> Turn
+pub(crate) fn after(moved: &io::Result<usize>) -> CallEnd
     ensures { result ≡ Turn.Done → ⊥ }
 {
     match moved {
-        Ok(0) => Turn::Waits,
-        Ok(_) => Turn::Moved,
-        Err(error) if is_waiting(error) => Turn::Waits,
-        Err(_) => Turn::Broken,
+        Ok(0) => CallEnd::Waits,
+        Ok(_) => CallEnd::Moved,
+        Err(error) if is_waiting(error) => CallEnd::Waits,
+        Err(_) => CallEnd::Broken,
     }
 }
 

@@ -4,10 +4,10 @@ use Rattle.std.proofs.Math.Seq.{take-suc}
 use Rattle.std.proofs.lemmas.Grind.{length_at_push}
 use Rattle.std.proofs.lemmas.List.{append_assoc, map-append}
 use Rattle.std.proofs.lemmas.List.Elements.{All-push}
-use Rattle.tko_loop.specs.Addresses.{IsOf as IsAddressesOf}
+use Rattle.tko_loop.specs.Addresses.{AreAddressesOf as IsAddressesOf}
 use Rattle.tko_loop.specs.declared.addresses.Addresses.{Addresses}
 use Rattle.tko_model.proofs.RecordLemmas.{gains_pushed}
-use Rattle.tko_server.specs.EventMembers.{AreAt, HasEventOptions, IsOneMore, IsEventReadyAt}
+use Rattle.tko_server.specs.EventMembers.{AreServersAt, HasEventOptions, IsOneMore, IsEventReadyAt}
 use Rattle.tko_server.specs.declared.event_members.EventMember.{EventMember}
 use Rattle.tko_server.specs.declared.running.Options.{Options}
 use Rattle.tko_tcp.specs.ServerHosts.{LeadsTo}
@@ -67,8 +67,8 @@ next_address text_of all place item text inside here same =
 -- one server more, which is where the next address leads
 pub one_more_server : (addresses all : List (List ℕ)) (address : List ℕ)
     (before after : List Addresses) (it : Addresses) → ((host : ServerHost) × LeadsTo address host × IsAddressesOf host it)
-    → after ≡ before ++ it ∷ [] → all ≡ addresses ++ address ∷ [] → AreAt addresses before
-    → AreAt all after
+    → after ≡ before ++ it ∷ [] → all ≡ addresses ++ address ∷ [] → AreServersAt addresses before
+    → AreServersAt all after
 one_more_server addresses all address before after it found pushed more at =
     let one : IsOneMore before address after =
     record { it = it; host = found.0; leads = found.1; is = found.2; pushed = pushed } in

@@ -1,6 +1,6 @@
 -- What runs beside a server: its event log and its metrics.
 use Rattle.std.specs.Prelude.{ℕ, List}
-use Rattle.tko_events.specs.Lines.{IsBegun}
+use Rattle.tko_events.specs.Lines.{IsJournalBegun}
 use Rattle.tko_metrics.specs.Meters.{HasParts}
 use Rattle.tko_server.specs.declared.logging.Logging.{Logging}
 use Rattle.tko_server.specs.declared.metering.Metering.{Metering}
@@ -10,7 +10,7 @@ use Rattle.tko_server.specs.declared.running.Options.{Options}
 -- the addresses of the configuration, and a soft mark's line has the failures that make one
 abbrev pub IsLogOf : List ℕ → Options → Logging → Type 0
 IsLogOf listen options logging =
-    IsBegun listen options.settings.failures options.config.addresses logging.journal
+    IsJournalBegun listen options.settings.failures options.config.addresses logging.journal
 
 -- metrics with a part for each worker of a server with these options
 abbrev pub IsMeterOf : Options → Metering → Type 0

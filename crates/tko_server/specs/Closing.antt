@@ -3,19 +3,19 @@ use Rattle.std.specs.Prelude.{◌≡◌, All, List, MatchOption, Result, Err}
 use Rattle.tko_server.specs.declared.running.Ended.{Ended}
 use Rattle.tko_server.specs.declared.running.Options.{Options}
 use Rattle.tko_server.specs.declared.running.Ran.{Ran}
-use Rattle.tko_server.specs.declared.run_fault.RunFault.{RunFault}
-use Rattle.tko_server.specs.declared.run_fault.RunFault.TheVariants as run
+use Rattle.tko_server.specs.declared.run_fault.ServerRunFault.{ServerRunFault}
+use Rattle.tko_server.specs.declared.run_fault.ServerRunFault.TheVariants as run
 use Rattle.tko_server.specs.declared.tracked.Failed.{Failed}
 use Rattle.tko_server.specs.Endings.{IsEnough}
 use Rattle.tko_server.specs.Runs.{IsAfterOpening, tracker_settings}
-use Rattle.tko_table.specs.Closing.{Left}
+use Rattle.tko_table.specs.Closing.{ClosedContents}
 use Rattle.tko_tracker.specs.Closing.{HoldsEachOnce, IsFinal}
 use Rattle.tko_tracker.specs.Seated.{IsOf, Seated, TrackerId}
 
 -- the passes of all threads of this tracker came back, each once, and it was closed with them: its
 -- servers are the replay of one history of exactly their calls' changes, no server is marked, and
 -- no slot is taken
-pub record IsClosed (tracker : TrackerId) (left : Left) : Type 0 where
+pub record IsClosed (tracker : TrackerId) (left : ClosedContents) : Type 0 where
   pub passes : List Seated
   pub own : All (IsOf tracker) passes
   pub whole : HoldsEachOnce tracker.settings.threads passes
@@ -28,7 +28,7 @@ pub record HasRun (options : Options) (tracker : TrackerId) (ran : Ran) : Type 0
 
 -- a server ran on these options to its end: as many connections were accepted as they ask for; the
 -- tracker that its workers had passes of has the settings of the options, and was closed
-pub record HasEnded (options : Options) (ended : Ended) : Type 0 where
+pub record HasServerEnded (options : Options) (ended : Ended) : Type 0 where
   pub on_options : ended.ran.options.value ≡ options
   pub enough : IsEnough options.connections ended.accepted
   pub same : ended.ran.tracker.value.settings ≡ tracker_settings options
@@ -36,12 +36,12 @@ pub record HasEnded (options : Options) (ended : Ended) : Type 0 where
 
 -- the fault of a server whose tracker could not be closed: memory ran out, unless announcing failed
 -- before
-abbrev pub unclosed : {T : Type 0} → Result T RunFault → RunFault
+abbrev pub unclosed : {T : Type 0} → Result T ServerRunFault → ServerRunFault
 unclosed (Err run.Announce) = run.Announce
 unclosed _ = run.Memory
 
 -- such a fault
-abbrev pub IsUnclosed : RunFault → Type 0
+abbrev pub IsUnclosed : ServerRunFault → Type 0
 IsUnclosed (run.Settings fault) = ⊥
 IsUnclosed run.Memory = Unit {0}
 IsUnclosed run.Announce = Unit {0}
@@ -49,6 +49,6 @@ IsUnclosed run.Accept = ⊥
 
 -- a run over this tracker failed after it was opened: the tracker was closed all the same, or a
 -- pass did not come back, since memory ran out, maybe after announcing had failed
-pub record HasFailed (tracker : TrackerId) (failed : Failed) : Type 0 where
+pub record HasRunFailed (tracker : TrackerId) (failed : Failed) : Type 0 where
   pub fault : IsAfterOpening failed.fault
   pub closed : MatchOption failed.closed (IsUnclosed failed.fault) (IsClosed tracker)

@@ -3,7 +3,7 @@ use Rattle.std.specs.Prelude.{◌≡◌, ℕ, List, All, [], ◌∷◌, ◌++◌
 use Rattle.tko_accept.specs.declared.room.ClientPlace.{ClientPlace}
 use Rattle.tko_event_threads.specs.Worked.{IsEventEquipped}
 use Rattle.tko_event_threads.specs.declared.working.EventParts.{EventParts}
-use Rattle.tko_loop.specs.Addresses.{IsOf as IsAddressesOf}
+use Rattle.tko_loop.specs.Addresses.{AreAddressesOf as IsAddressesOf}
 use Rattle.tko_loop.specs.declared.addresses.Addresses.{Addresses}
 use Rattle.tko_loop.specs.declared.limits.LoopLimits.{LoopLimits}
 use Rattle.tko_model.specs.Records.{Gains}
@@ -33,15 +33,15 @@ pub record IsOneMore (old : List Addresses) (address : List ℕ) (new : List Add
   pub pushed : new ≡ old ++ it ∷ []
 
 -- a server for each of these addresses, in order
-abbrev pub AreAt : List (List ℕ) → List Addresses → Type 0
-AreAt addresses servers = Gains IsOneMore [] addresses servers
+abbrev pub AreServersAt : List (List ℕ) → List Addresses → Type 0
+AreServersAt addresses servers = Gains IsOneMore [] addresses servers
 
 -- what a worker works with is what the options ask for
 pub record HasEventOptions {S : Type 0} (options : Options) (parts : EventParts S ClientPlace)
     : Type 0
   where
     pub config : parts.config ≡ options.config
-    pub servers : AreAt options.config.addresses parts.servers.items
+    pub servers : AreServersAt options.config.addresses parts.servers.items
     pub limits : parts.limits ≡ event_limits options
     pub keys : parts.keys ≡ options.keys
     pub probers : parts.probers ≡ no_probers options.delays (length options.config.addresses)

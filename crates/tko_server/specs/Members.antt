@@ -5,7 +5,7 @@ use Rattle.tko_tcp.specs.TcpWires.{TcpState}
 use Rattle.tko_links.specs.Wired.{WiredState}
 use Rattle.tko_prober.specs.Probers.{no_probers}
 use Rattle.tko_server.specs.declared.running.Options.{Options}
-use Rattle.tko_threads.specs.Workers.{AreReady, IsReady}
+use Rattle.tko_threads.specs.Workers.{AreMembersReady, IsMemberReady}
 use Rattle.tko_threads.specs.declared.pooling.Member.{Member}
 use Rattle.tko_threads.specs.declared.working.WorkerParts.{WorkerParts}
 use Rattle.tko_tracker.specs.Seated.{IsOf, Seated, TrackerId}
@@ -22,13 +22,15 @@ pub record HasOptions {S M : Type 0} (options : Options)
 -- ready at this tracker without a lock, and by links over a wire
 abbrev pub IsReadyAt : {C S W M : Type 0} → TrackerId → Member C Seated S (WiredState W) M
     → Type 0
-IsReadyAt tracker member = IsReady (λ _ idle. IsOf tracker idle) (λ _. tracker.settings.servers)
+IsReadyAt tracker member =
+    IsMemberReady (λ _ idle. IsOf tracker idle) (λ _. tracker.settings.servers)
     (λ links. length links.sends) member
 
 -- each of these members is so
 abbrev pub AreReadyAt : {C S W M : Type 0} → TrackerId → List (Member C Seated S (WiredState W) M)
     → Type 0
-AreReadyAt tracker members = AreReady (λ _ idle. IsOf tracker idle) (λ _. tracker.settings.servers)
+AreReadyAt tracker members =
+    AreMembersReady (λ _ idle. IsOf tracker idle) (λ _. tracker.settings.servers)
     (λ links. length links.sends) members
 
 -- as many as the options ask for, each with what they ask for, and ready at this tracker; each has

@@ -3,8 +3,8 @@ use Rattle.std.specs.Prelude.{length}
 use Rattle.tko_model.specs.declared.plain.OpenFault.{OpenFault}
 use Rattle.tko_model.specs.declared.plain.OpenFault.TheVariants as opening
 use Rattle.tko_model.specs.Settings.{Settings, with_servers}
-use Rattle.tko_server.specs.declared.run_fault.RunFault.{RunFault}
-use Rattle.tko_server.specs.declared.run_fault.RunFault.TheVariants as run
+use Rattle.tko_server.specs.declared.run_fault.ServerRunFault.{ServerRunFault}
+use Rattle.tko_server.specs.declared.run_fault.ServerRunFault.TheVariants as run
 use Rattle.tko_server.specs.declared.running.Options.{Options}
 
 -- the settings of a server's tracker, which has the servers of the configuration
@@ -13,19 +13,19 @@ tracker_settings options =
     with_servers (length options.config.addresses) options.settings
 
 -- why a server ends whose tracker can't be opened
-abbrev pub fault_of_opening : OpenFault → RunFault
-fault_of_opening (opening.Settings fault) = run.Settings fault
-fault_of_opening opening.Memory = run.Memory
+abbrev pub run_fault_of_opening : OpenFault → ServerRunFault
+run_fault_of_opening (opening.Settings fault) = run.Settings fault
+run_fault_of_opening opening.Memory = run.Memory
 
 -- the settings were in their ranges
-abbrev pub IsAfterOpening : RunFault → Type 0
+abbrev pub IsAfterOpening : ServerRunFault → Type 0
 IsAfterOpening (run.Settings fault) = ⊥
 IsAfterOpening run.Memory = Unit {0}
 IsAfterOpening run.Announce = Unit {0}
 IsAfterOpening run.Accept = Unit {0}
 
 -- the server had not begun
-abbrev pub IsBeforeStart : RunFault → Type 0
+abbrev pub IsBeforeStart : ServerRunFault → Type 0
 IsBeforeStart (run.Settings fault) = Unit {0}
 IsBeforeStart run.Memory = Unit {0}
 IsBeforeStart run.Announce = ⊥

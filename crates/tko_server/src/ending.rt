@@ -2,14 +2,14 @@
 ghost use Rattle.std.specs.Prelude.{◌≡◌};
 ghost use Rattle.tko_server.specs.Endings.{ended_by};
 
-use crate::RunFault;
+use crate::ServerRunFault;
 use tko_accept::AcceptEnd;
 use tko_bytes::NoMemory;
 use tko_threads::WorkerReport;
 
 /// What the workers of a server met that ended well, and how many connections it accepted.
 #[derive(Clone, Copy, Debug)]
-pub(crate) struct Served {
+pub(crate) struct ServedReport {
     pub(crate) report: WorkerReport,
     pub(crate) accepted: u64,
 }
@@ -20,13 +20,13 @@ pub(crate) fn ended_by(
     report: Result<WorkerReport, NoMemory>,
     ended: AcceptEnd,
     accepted: u64,
-) -> Result<Served, RunFault>
+) -> Result<ServedReport, ServerRunFault>
     ensures { result ≡ ended_by report ended accepted }
 {
     let report = report?;
     match ended {
-        AcceptEnd::Enough => Ok(Served { report, accepted }),
-        AcceptEnd::NoWorker => Err(RunFault::Memory),
-        AcceptEnd::Broken => Err(RunFault::Accept),
+        AcceptEnd::Enough => Ok(ServedReport { report, accepted }),
+        AcceptEnd::NoWorker => Err(ServerRunFault::Memory),
+        AcceptEnd::Broken => Err(ServerRunFault::Accept),
     }
 }

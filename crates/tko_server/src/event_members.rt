@@ -2,11 +2,11 @@
 ghost use Rattle.std.specs.Prelude.{◌≡◌, All, IfOk, length, min};
 ghost use Rattle.tko_tracker.specs.Seated.{IsOf};
 ghost use Rattle.tko_event_threads.specs.Worked.{IsEventEquipped};
-ghost use Rattle.tko_server.specs.EventMembers.{AreAt, AreEventMembersOf, HasEventOptions, IsEventReadyAt, event_limits};
+ghost use Rattle.tko_server.specs.EventMembers.{AreEventMembersOf, AreServersAt, HasEventOptions, IsEventReadyAt, event_limits};
 ghost use Rattle.tko_server.specs.Runs.{tracker_settings};
 
 use crate::Options;
-use crate::members::Shared;
+use crate::members::WorkersShared;
 use std::alloc::Global;
 use tko_accept::{ClientPlace, FirstAsk, WAITING};
 use tko_bytes::NoMemory;
@@ -15,7 +15,7 @@ use tko_event_threads::EventParts;
 use tko_events::WorkerLog;
 use tko_health::{Seating, SharedSeating};
 use tko_io::IoRuntime;
-use tko_loop::{Addresses, Entry, Handover, LoopLimits};
+use tko_loop::{Addresses, Handover, LoopEntry, LoopLimits};
 use tko_prober::Probers;
 use tko_threads::Account;
 use tko_tracker::{IdlePass, Named};
@@ -33,7 +33,7 @@ pub(crate) struct EventMember<'a, P, S> {
 /// What one of a server is started with.
 pub(crate) type ServerEventMember<'a, 'o, N> = EventMember<'a, IdlePass, SharedSeating<'o, N>>;
 
-impl<'o, N: Named> Shared<'o, N> {
+impl<'o, N: Named> WorkersShared<'o, N> {
     /// How many event-driven workers there are: those that the process has descriptors for.
     pub(crate) fn event_workers(&self) -> u32
         ensures { result
@@ -81,7 +81,7 @@ impl<'o, N: Named> Shared<'o, N> {
         alloc: Global,
         idle: IdlePass,
         share: &'a mut Share,
-        way_in: Entry<ClientPlace>,
+        way_in: LoopEntry<ClientPlace>,
         first_ask: &FirstAsk,
     ) -> Result<ServerEventMember<'a, 'o, N>, NoMemory>
         requires own { IsOf N.tracker idle }
@@ -102,7 +102,7 @@ impl<'o, N: Named> Shared<'o, N> {
         alloc: Global,
         log: WorkerLog,
         share: &'a mut Share,
-        way_in: Entry<ClientPlace>,
+        way_in: LoopEntry<ClientPlace>,
         first_ask: &FirstAsk,
     ) -> Result<EventParts<'a, SharedSeating<'o, N>, ClientPlace>, NoMemory>
         requires asked { N.tracker.settings ≡ tracker_settings self.now.options.now }
@@ -133,7 +133,7 @@ impl<'o, N: Named> Shared<'o, N> {
         ensures number { IfOk result (λ servers.
             length servers.items ≡ length self.now.options.now.config.addresses) }
         ensures at { IfOk result (λ servers.
-            AreAt self.now.options.now.config.addresses servers.items) }
+            AreServersAt self.now.options.now.config.addresses servers.items) }
     {
         let names = self.naming.names()?;
         let mut servers = Vec::new(alloc);
@@ -148,8 +148,8 @@ impl<'o, N: Named> Shared<'o, N> {
 fn open_way<R: IoRuntime>(
     rt: &R,
     alloc: Global,
-) -> Result<(Entry<ClientPlace>, Handover<ClientPlace>), NoMemory> {
-    match Entry::open(rt, alloc, WAITING as usize) {
+) -> Result<(LoopEntry<ClientPlace>, Handover<ClientPlace>), NoMemory> {
+    match LoopEntry::open(rt, alloc, WAITING as usize) {
         Ok(ways) => Ok(ways),
         Err(_) => Err(NoMemory),
     }

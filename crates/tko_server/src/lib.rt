@@ -30,7 +30,7 @@ mod tracked;
 pub use announce::{Announce, AnnounceFault};
 pub use logging::{Logging, run_logged};
 pub use metering::{Metering, run_events, run_metered};
-pub use run_fault::RunFault;
+pub use run_fault::ServerRunFault;
 pub use running::{Ended, Options, Ran, run, run_to_end};
 pub use tko_accept::{Allotment, FirstAsks};
 pub use tko_threads::{

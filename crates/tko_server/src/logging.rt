@@ -3,13 +3,13 @@ ghost use Rattle.std.specs.Prelude.{◌≡◌, ◌↔◌, Err, IfOk, Some, map, 
 ghost use Rattle.tko_model.specs.Ranges.{first_fault};
 ghost use Rattle.tko_server.specs.Announcing.{IsAnnounced};
 ghost use Rattle.tko_server.specs.Beside.{IsLogOf};
-ghost use Rattle.tko_server.specs.Closing.{HasEnded};
+ghost use Rattle.tko_server.specs.Closing.{HasServerEnded};
 ghost use Rattle.tko_server.specs.Runs.{tracker_settings};
 
 use crate::announce::Silent;
 use crate::crew::WorkerKind;
 use crate::running::{Ended, Options, run_told};
-use crate::{Announce, RunFault};
+use crate::{Announce, ServerRunFault};
 use std::alloc::{AllocError, Global};
 use std::net::TcpListener;
 use std::sync::Wait;
@@ -75,10 +75,10 @@ pub fn run_logged<
     listener: &TcpListener,
     options: &Options,
     logging: Option<Logging>,
-) -> Result<Ended, RunFault>
+) -> Result<Ended, ServerRunFault>
     ensures settings { (fault : SettingsFault) → (result ≡ Err (RunFault.Settings fault))
         ↔ (first_fault (tracker_settings options.now) ≡ Some fault) }
-    ensures ended { IfOk result (HasEnded options.now) }
+    ensures ended { IfOk result (HasServerEnded options.now) }
 {
     let kind = WorkerKind::Blocking;
     let meter = Meter::off();
@@ -100,10 +100,10 @@ pub(crate) fn run_beside_meter<
     logging: Option<Logging>,
     meter: Meter,
     announcement: A,
-) -> (A, Result<Ended, RunFault>)
+) -> (A, Result<Ended, ServerRunFault>)
     ensures settings { (fault : SettingsFault) → (result.1 ≡ Err (RunFault.Settings fault))
         ↔ (first_fault (tracker_settings options.now) ≡ Some fault) }
-    ensures ended { IfOk result.1 (HasEnded options.now) }
+    ensures ended { IfOk result.1 (HasServerEnded options.now) }
     ensures announced { IsAnnounced A.announces A.fails announcement result.0 result.1 }
 {
     match logging {
@@ -138,10 +138,10 @@ fn run_and_end<
     kind: WorkerKind,
     log: &Log,
     announcement: A,
-) -> (A, Result<Ended, RunFault>)
+) -> (A, Result<Ended, ServerRunFault>)
     ensures settings { (fault : SettingsFault) → (result.1 ≡ Err (RunFault.Settings fault))
         ↔ (first_fault (tracker_settings options.now) ≡ Some fault) }
-    ensures ended { IfOk result.1 (HasEnded options.now) }
+    ensures ended { IfOk result.1 (HasServerEnded options.now) }
     ensures announced { IsAnnounced A.announces A.fails announcement result.0 result.1 }
 {
     let ended = run_told(rt, alloc, listener, options, kind, Some(log), announcement);
@@ -162,10 +162,10 @@ fn run_beside<
     logging: Logging,
     meter: Meter,
     announcement: A,
-) -> (A, Result<Ended, RunFault>)
+) -> (A, Result<Ended, ServerRunFault>)
     ensures settings { (fault : SettingsFault) → (result.1 ≡ Err (RunFault.Settings fault))
         ↔ (first_fault (tracker_settings options.now) ≡ Some fault) }
-    ensures ended { IfOk result.1 (HasEnded options.now) }
+    ensures ended { IfOk result.1 (HasServerEnded options.now) }
     ensures announced { IsAnnounced A.announces A.fails announcement result.0 result.1 }
 {
     let Logging {
@@ -178,10 +178,10 @@ fn run_beside<
     let (_written, ended) = thread::join(
         rt,
         || reader.write_lines(rt, alloc, &mut journal),
-        || -> (A, Result<Ended, RunFault>)
+        || -> (A, Result<Ended, ServerRunFault>)
             ensures settings { (fault : SettingsFault) → (result.1 ≡ Err (RunFault.Settings fault))
                 ↔ (first_fault (tracker_settings options.entry.now) ≡ Some fault) }
-            ensures ended { IfOk result.1 (HasEnded options.entry.now) }
+            ensures ended { IfOk result.1 (HasServerEnded options.entry.now) }
             ensures announced { IsAnnounced A.announces A.fails announcement
                 result.0 result.1 }
         { run_and_end(rt, alloc, listener, options, kind, &log, announcement) },

@@ -12,7 +12,7 @@ use crate::naming::Naming;
 use crossbeam_channel::Receiver;
 use std::alloc::Global;
 use std::sync::Mutex;
-use tko_accept::{Allotment, Client, Clients, FirstAsk};
+use tko_accept::{AcceptedClient, Allotment, Clients, FirstAsk};
 use tko_bytes::NoMemory;
 use tko_desk::{Book, Share};
 use tko_events::{Log, WorkerLog};
@@ -26,7 +26,7 @@ use tko_tracker::{IdlePass, Named};
 
 /// What all workers of a server share.
 #[derive(Drop)]
-pub(crate) struct Shared<'o, N: Named> {
+pub(crate) struct WorkersShared<'o, N: Named> {
     pub(crate) options: &'o Options,
     pub(crate) seating: SharedSeating<'o, N>,
     pub(crate) book: Mutex<Book>,
@@ -52,7 +52,7 @@ pub(crate) type ServerMember<'a, 'o, N> = Member<
 /// What one of them works with.
 type ServerParts<'a, 'o, N> = WorkerParts<'a, SharedSeating<'o, N>, TcpLinks, MonotonicClock>;
 
-impl<'o, N: Named> Shared<'o, N> {
+impl<'o, N: Named> WorkersShared<'o, N> {
     /// A member for each pass, in order, with the share of the same place. All of them take the
     /// clients from one channel.
     pub(crate) fn members<'a, R: IoRuntime>(
@@ -61,7 +61,7 @@ impl<'o, N: Named> Shared<'o, N> {
         alloc: Global,
         passes: Vec<IdlePass>,
         shares: &'a mut [Share],
-        accepted: &Receiver<Client>,
+        accepted: &Receiver<AcceptedClient>,
         first_ask: &FirstAsk,
     ) -> Result<Vec<ServerMember<'a, 'o, N>>, NoMemory>
         requires own { All (λ idle. IsOf N.tracker idle) passes.items }
@@ -87,7 +87,7 @@ impl<'o, N: Named> Shared<'o, N> {
     fn source(
         &self,
         idle: &IdlePass,
-        accepted: &Receiver<Client>,
+        accepted: &Receiver<AcceptedClient>,
         first_ask: &FirstAsk,
     ) -> Result<Clients, NoMemory>
         ensures { IfOk result (λ source. (number : ℕ) → idle.now.pass.state ≡ Idle number

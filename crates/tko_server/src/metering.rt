@@ -3,13 +3,13 @@ ghost use Rattle.std.specs.Prelude.{◌≡◌, ◌↔◌, Err, IfOk, Some};
 ghost use Rattle.tko_model.specs.Ranges.{first_fault};
 ghost use Rattle.tko_server.specs.Announcing.{IsAnnounced};
 ghost use Rattle.tko_server.specs.Beside.{IsMeterOf};
-ghost use Rattle.tko_server.specs.Closing.{HasEnded};
+ghost use Rattle.tko_server.specs.Closing.{HasServerEnded};
 ghost use Rattle.tko_server.specs.Runs.{tracker_settings};
 
 use crate::crew::WorkerKind;
 use crate::logging::run_beside_meter;
 use crate::running::{Ended, Options};
-use crate::{Announce, Logging, RunFault};
+use crate::{Announce, Logging, ServerRunFault};
 use std::alloc::{AllocError, Global};
 use std::net::TcpListener;
 use std::thread;
@@ -58,10 +58,10 @@ pub fn run_metered<
     logging: Option<Logging>,
     metering: Option<Metering>,
     announcement: A,
-) -> (A, Result<Ended, RunFault>)
+) -> (A, Result<Ended, ServerRunFault>)
     ensures settings { (fault : SettingsFault) → (result.1 ≡ Err (RunFault.Settings fault))
         ↔ (first_fault (tracker_settings options.now) ≡ Some fault) }
-    ensures ended { IfOk result.1 (HasEnded options.now) }
+    ensures ended { IfOk result.1 (HasServerEnded options.now) }
     ensures announced { IsAnnounced A.announces A.fails announcement result.0 result.1 }
 {
     let kind = WorkerKind::Blocking;
@@ -89,10 +89,10 @@ pub fn run_events<
     logging: Option<Logging>,
     metering: Option<Metering>,
     announcement: A,
-) -> (A, Result<Ended, RunFault>)
+) -> (A, Result<Ended, ServerRunFault>)
     ensures settings { (fault : SettingsFault) → (result.1 ≡ Err (RunFault.Settings fault))
         ↔ (first_fault (tracker_settings options.now) ≡ Some fault) }
-    ensures ended { IfOk result.1 (HasEnded options.now) }
+    ensures ended { IfOk result.1 (HasServerEnded options.now) }
     ensures announced { IsAnnounced A.announces A.fails announcement result.0 result.1 }
 {
     let kind = WorkerKind::Events;
@@ -121,10 +121,10 @@ fn run_by<
     logging: Option<Logging>,
     metering: Option<Metering>,
     announcement: A,
-) -> (A, Result<Ended, RunFault>)
+) -> (A, Result<Ended, ServerRunFault>)
     ensures settings { (fault : SettingsFault) → (result.1 ≡ Err (RunFault.Settings fault))
         ↔ (first_fault (tracker_settings options.now) ≡ Some fault) }
-    ensures ended { IfOk result.1 (HasEnded options.now) }
+    ensures ended { IfOk result.1 (HasServerEnded options.now) }
     ensures announced { IsAnnounced A.announces A.fails announcement result.0 result.1 }
 {
     match metering {
@@ -169,10 +169,10 @@ fn run_beside<
     logging: Option<Logging>,
     metering: Metering,
     announcement: A,
-) -> (A, Result<Ended, RunFault>)
+) -> (A, Result<Ended, ServerRunFault>)
     ensures settings { (fault : SettingsFault) → (result.1 ≡ Err (RunFault.Settings fault))
         ↔ (first_fault (tracker_settings options.now) ≡ Some fault) }
-    ensures ended { IfOk result.1 (HasEnded options.now) }
+    ensures ended { IfOk result.1 (HasServerEnded options.now) }
     ensures announced { IsAnnounced A.announces A.fails announcement result.0 result.1 }
 {
     let Metering { meter, scrapes } = metering;
@@ -180,10 +180,10 @@ fn run_beside<
     let (_answered, ended) = thread::join(
         rt,
         || scrapes.answer_all(rt, alloc),
-        || -> (A, Result<Ended, RunFault>)
+        || -> (A, Result<Ended, ServerRunFault>)
             ensures settings { (fault : SettingsFault) → (result.1 ≡ Err (RunFault.Settings fault))
                 ↔ (first_fault (tracker_settings options.entry.now) ≡ Some fault) }
-            ensures ended { IfOk result.1 (HasEnded options.entry.now) }
+            ensures ended { IfOk result.1 (HasServerEnded options.entry.now) }
             ensures announced { IsAnnounced A.announces A.fails announcement
                 result.0 result.1 }
         {
@@ -217,10 +217,10 @@ fn run_and_end<
     meter: Meter,
     scrapes: &Scrapes,
     announcement: A,
-) -> (A, Result<Ended, RunFault>)
+) -> (A, Result<Ended, ServerRunFault>)
     ensures settings { (fault : SettingsFault) → (result.1 ≡ Err (RunFault.Settings fault))
         ↔ (first_fault (tracker_settings options.now) ≡ Some fault) }
-    ensures ended { IfOk result.1 (HasEnded options.now) }
+    ensures ended { IfOk result.1 (HasServerEnded options.now) }
     ensures announced { IsAnnounced A.announces A.fails announcement result.0 result.1 }
 {
     let ended = run_beside_meter(

@@ -8,7 +8,7 @@ use tko_model::{OpenFault, SettingsFault};
 
 /// Why a server ended without its totals.
 #[derive(Clone, Copy, Debug, PartialEq, Eq, Error)]
-pub enum RunFault {
+pub enum ServerRunFault {
     #[error("settings {0}")]
     Settings(SettingsFault),
     #[error("memory")]
@@ -21,60 +21,60 @@ pub enum RunFault {
     Accept,
 }
 
-impl From<NoMemory> for RunFault {
+impl From<NoMemory> for ServerRunFault {
     ghost use Rattle.std.specs.Prelude.{◌≡◌};
-    ghost use Rattle.tko_server.specs.declared.run_fault.RunFault.TheVariants.{Memory};
+    ghost use Rattle.tko_server.specs.declared.run_fault.ServerRunFault.TheVariants.{Memory};
 
     ghost from_gives = { λ _ fault. fault ≡ Memory };
 
-    fn from(_: NoMemory) -> RunFault {
-        RunFault::Memory
+    fn from(_: NoMemory) -> ServerRunFault {
+        ServerRunFault::Memory
     }
 }
 
-impl From<AllocError> for RunFault {
+impl From<AllocError> for ServerRunFault {
     ghost use Rattle.std.specs.Prelude.{◌≡◌};
-    ghost use Rattle.tko_server.specs.declared.run_fault.RunFault.TheVariants.{Memory};
+    ghost use Rattle.tko_server.specs.declared.run_fault.ServerRunFault.TheVariants.{Memory};
 
     ghost from_gives = { λ _ fault. fault ≡ Memory };
 
-    fn from(_: AllocError) -> RunFault {
-        RunFault::Memory
+    fn from(_: AllocError) -> ServerRunFault {
+        ServerRunFault::Memory
     }
 }
 
-impl From<AnnounceFault> for RunFault {
+impl From<AnnounceFault> for ServerRunFault {
     ghost use Rattle.std.specs.Prelude.{◌≡◌};
-    ghost use Rattle.tko_server.specs.declared.run_fault.RunFault.TheVariants.{Announce};
+    ghost use Rattle.tko_server.specs.declared.run_fault.ServerRunFault.TheVariants.{Announce};
 
     ghost from_gives = { λ _ fault. fault ≡ Announce };
 
-    fn from(_: AnnounceFault) -> RunFault {
-        RunFault::Announce
+    fn from(_: AnnounceFault) -> ServerRunFault {
+        ServerRunFault::Announce
     }
 }
 
-impl From<SettingsFault> for RunFault {
+impl From<SettingsFault> for ServerRunFault {
     ghost use Rattle.std.specs.Prelude.{◌≡◌};
-    ghost use Rattle.tko_server.specs.declared.run_fault.RunFault.TheVariants.{Settings};
+    ghost use Rattle.tko_server.specs.declared.run_fault.ServerRunFault.TheVariants.{Settings};
 
     ghost from_gives = { λ cause fault. fault ≡ Settings cause };
 
-    fn from(setting: SettingsFault) -> RunFault {
-        RunFault::Settings(setting)
+    fn from(setting: SettingsFault) -> ServerRunFault {
+        ServerRunFault::Settings(setting)
     }
 }
 
-impl From<OpenFault> for RunFault {
+impl From<OpenFault> for ServerRunFault {
     ghost use Rattle.std.specs.Prelude.{◌≡◌};
-    ghost use Rattle.tko_server.specs.Runs.{fault_of_opening};
+    ghost use Rattle.tko_server.specs.Runs.{run_fault_of_opening};
 
-    ghost from_gives = { λ cause fault. fault ≡ fault_of_opening cause };
+    ghost from_gives = { λ cause fault. fault ≡ run_fault_of_opening cause };
 
-    fn from(fault: OpenFault) -> RunFault {
+    fn from(fault: OpenFault) -> ServerRunFault {
         match fault {
-            OpenFault::Settings(setting) => RunFault::Settings(setting),
-            OpenFault::Memory => RunFault::Memory,
+            OpenFault::Settings(setting) => ServerRunFault::Settings(setting),
+            OpenFault::Memory => ServerRunFault::Memory,
         }
     }
 }

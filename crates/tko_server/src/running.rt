@@ -3,7 +3,7 @@ ghost use Rattle.std.specs.Prelude.{◌≡◌, ◌<◌, ◌↔◌, Err, IfOk, Ma
 ghost use Rattle.tko_accept.specs.Allotments.{clients_without_limit};
 ghost use Rattle.tko_model.specs.Ranges.{first_fault};
 ghost use Rattle.tko_server.specs.Announcing.{IsAnnounced};
-ghost use Rattle.tko_server.specs.Closing.{HasEnded};
+ghost use Rattle.tko_server.specs.Closing.{HasServerEnded};
 ghost use Rattle.tko_server.specs.Descriptors.{IsEventAllotment, IsThreadAllotment, clients_asked};
 ghost use Rattle.tko_server.specs.Runs.{tracker_settings};
 
@@ -11,7 +11,7 @@ use crate::announce::Silent;
 use crate::crew::WorkerKind;
 use crate::opening::opened;
 use crate::tracked::run_with;
-use crate::{Announce, RunFault};
+use crate::{Announce, ServerRunFault};
 use std::alloc::Global;
 use std::marker::Brand;
 use std::net::TcpListener;
@@ -112,7 +112,7 @@ pub fn run<R: IoRuntime<Listener = TcpListener> + Threads + Sync + Copy + Send +
     alloc: Global,
     listener: &TcpListener,
     options: &Options,
-) -> Result<Totals, RunFault>
+) -> Result<Totals, ServerRunFault>
     ensures settings { (fault : SettingsFault) → (result ≡ Err (RunFault.Settings fault))
         ↔ (first_fault (tracker_settings options.now) ≡ Some fault) }
 {
@@ -128,10 +128,10 @@ pub fn run_to_end<R: IoRuntime<Listener = TcpListener> + Threads + Sync + Copy +
     alloc: Global,
     listener: &TcpListener,
     options: &Options,
-) -> Result<Ended, RunFault>
+) -> Result<Ended, ServerRunFault>
     ensures settings { (fault : SettingsFault) → (result ≡ Err (RunFault.Settings fault))
         ↔ (first_fault (tracker_settings options.now) ≡ Some fault) }
-    ensures ended { IfOk result (HasEnded options.now) }
+    ensures ended { IfOk result (HasServerEnded options.now) }
 {
     let kind = WorkerKind::Blocking;
     let (_, ended) = run_told(rt, alloc, listener, options, kind, None, Silent);
@@ -151,10 +151,10 @@ pub(crate) fn run_told<
     kind: WorkerKind,
     log: Option<&Log>,
     announcement: A,
-) -> (A, Result<Ended, RunFault>)
+) -> (A, Result<Ended, ServerRunFault>)
     ensures settings { (fault : SettingsFault) → (result.1 ≡ Err (RunFault.Settings fault))
         ↔ (first_fault (tracker_settings options.now) ≡ Some fault) }
-    ensures ended { IfOk result.1 (HasEnded options.now) }
+    ensures ended { IfOk result.1 (HasServerEnded options.now) }
     ensures announced { IsAnnounced A.announces A.fails announcement result.0 result.1 }
 {
     let (tracker, passes) = match opened(alloc, options) {

@@ -1,7 +1,7 @@
 //! The server over loopback.
 
 use crate::announce::Silent;
-use crate::{Options, Patience, RunFault, WorkerReport, run, run_events};
+use crate::{Options, Patience, ServerRunFault, WorkerReport, run, run_events};
 use std::alloc::Global;
 use std::io::{Read, Write};
 use std::net::{Ipv4Addr, Net, SocketAddr, TcpListener, TcpStream};
@@ -48,7 +48,12 @@ fn serve<
         + Copy
         + Send
         + 'static,
->(rt: &R, alloc: Global, listener: &TcpListener, options: &Options) -> Result<Totals, RunFault> {
+>(
+    rt: &R,
+    alloc: Global,
+    listener: &TcpListener,
+    options: &Options,
+) -> Result<Totals, ServerRunFault> {
     run(rt, alloc, listener, options)
 }
 
@@ -69,7 +74,7 @@ fn serve_events<
     alloc: Global,
     listener: &TcpListener,
     options: &Options,
-) -> Result<(Totals, WorkerReport), RunFault> {
+) -> Result<(Totals, WorkerReport), ServerRunFault> {
     let (_, ended) = run_events(rt, alloc, listener, options, None, None, Silent);
     let ended = ended?;
     Ok((ended.totals, ended.report))
@@ -162,6 +167,6 @@ fn a_broken_listener_is_a_fault(rt: HostRuntime) -> Result<(), Fail> {
     let broken = TcpListener::from(OwnedFd::from(stream));
     let options = options(alloc, 1)?;
     let ended = serve(&rt, alloc, &broken, &options);
-    assert_eq!(rt; ended.err(), Some(RunFault::Accept));
+    assert_eq!(rt; ended.err(), Some(ServerRunFault::Accept));
     Ok(())
 }

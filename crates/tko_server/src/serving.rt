@@ -8,11 +8,11 @@ ghost use Rattle.tko_server.specs.Endings.{HasComeTo, IsEnough};
 ghost use Rattle.tko_server.specs.Runs.{IsAfterOpening, tracker_settings};
 
 use crate::crew::Crew;
-use crate::ending::{Served, ended_by};
-use crate::members::Shared;
+use crate::ending::{ServedReport, ended_by};
+use crate::members::WorkersShared;
 use crate::starting::{Start, start_of};
 use crate::threads::{WorkerThread, join_all, start_all, start_events};
-use crate::{Announce, Options, RunFault};
+use crate::{Announce, Options, ServerRunFault};
 use std::alloc::Global;
 use std::net::TcpListener;
 use std::sync::Arc;
@@ -37,11 +37,11 @@ pub(crate) fn serve_all<
     rt: &R,
     alloc: Global,
     listener: &TcpListener,
-    shared: &Shared<'_, N>,
+    shared: &WorkersShared<'_, N>,
     desk: &Desk<N>,
     shares: &mut [Share],
     announcement: A,
-) -> (A, Result<Served, RunFault>)
+) -> (A, Result<ServedReport, ServerRunFault>)
     requires shares { length shares.old ≡ N.tracker.settings.threads }
     requires asked { N.tracker.settings ≡ tracker_settings shared.now.options.now }
     ensures enough { IfOk result.1 (λ served.
@@ -50,7 +50,7 @@ pub(crate) fn serve_all<
     ensures announced { IsAnnounced A.announces A.fails announcement result.0 result.1 }
 {
     let Ok(start) = start_of(rt, alloc, shared, desk, shares) else {
-        return (announcement, Err(RunFault::Memory));
+        return (announcement, Err(ServerRunFault::Memory));
     };
     serve_from(rt, alloc, listener, shared, desk, start, announcement)
 }
@@ -64,11 +64,11 @@ fn serve_from<
     rt: &R,
     alloc: Global,
     listener: &TcpListener,
-    shared: &Shared<'_, N>,
+    shared: &WorkersShared<'_, N>,
     desk: &Desk<N>,
     start: Start<'_, '_, N>,
     announcement: A,
-) -> (A, Result<Served, RunFault>)
+) -> (A, Result<ServedReport, ServerRunFault>)
     requires { IsCrewOf start.crew (λ members. AreReadyAt N.tracker members.items)
         (λ members. AreEventReadyAt N.tracker members.items) }
     ensures enough { IfOk result.1 (λ served.
@@ -91,7 +91,7 @@ fn serve_from<
     thread::scope(
         thread::scope_env(),
         rt,
-        move |scope| -> (A, Result<Served, RunFault>)
+        move |scope| -> (A, Result<ServedReport, ServerRunFault>)
             requires { IsCrewOf crew (λ members. AreReadyAt N.tracker members.items)
                 (λ members. AreEventReadyAt N.tracker members.items) }
             ensures enough { IfOk result.1 (λ served.
@@ -133,7 +133,7 @@ impl Front {
         options: &Options,
         started: Result<(Vec<WorkerThread>, W), NoMemory>,
         mut announcement: A,
-    ) -> (A, Result<Served, RunFault>)
+    ) -> (A, Result<ServedReport, ServerRunFault>)
         ensures enough { IfOk result.1 (λ served.
             IsEnough options.now.connections served.accepted) }
         ensures fault { IfErr result.1 IsAfterOpening }
@@ -145,7 +145,7 @@ impl Front {
             log,
         } = self;
         let Ok((threads, way)) = started else {
-            return (announcement, Err(RunFault::Memory));
+            return (announcement, Err(ServerRunFault::Memory));
         };
         if let Err(fault) = begin(rt, first_asks, &log, &mut announcement) {
             return (announcement, Err(fault));
@@ -167,7 +167,7 @@ fn accept_for<R: IoRuntime + Threads, W: Way + Drop>(
     listening: &mut Listening<'_>,
     mut entrance: Entrance<W>,
     connections: u64,
-) -> Result<Served, RunFault>
+) -> Result<ServedReport, ServerRunFault>
     requires none { listening.old.accepted ≡ 0 }
     requires whole { listening.old.is_broken ≡ false }
     requires taken { entrance.has_worker ≡ true }
@@ -186,12 +186,12 @@ fn begin<R: IoRuntime, A: Announce>(
     mut first_asks: FirstAsks,
     log: &Log,
     announcement: &mut A,
-) -> Result<(), RunFault>
+) -> Result<(), ServerRunFault>
     ensures fault { IfErr result IsAfterOpening }
     ensures announced { IsAnnounced A.announces A.fails announcement.old announcement.new result }
 {
     if !first_asks.hear_all(rt) {
-        return Err(RunFault::Memory);
+        return Err(ServerRunFault::Memory);
     }
     log.tell(rt, What::Listening);
     announcement.announce(rt, &first_asks)?;

@@ -8,7 +8,7 @@ ghost use Rattle.tko_server.specs.Runs.{tracker_settings};
 use crate::by_turns::ByTurns;
 use crate::crew::{Crew, WorkerKind};
 use crate::event_members::ServerEventMember;
-use crate::members::{ServerMember, Shared};
+use crate::members::{ServerMember, WorkersShared};
 use crossbeam_channel::bounded;
 use std::alloc::Global;
 use std::sync::Arc;
@@ -40,7 +40,7 @@ pub(crate) struct Start<'a, 'o, N: Named> {
 pub(crate) fn start_of<'a, 'o, N: Named, R: IoRuntime>(
     rt: &R,
     alloc: Global,
-    shared: &'a Shared<'o, N>,
+    shared: &'a WorkersShared<'o, N>,
     desk: &Desk<N>,
     shares: &'a mut [Share],
 ) -> Result<Start<'a, 'o, N>, NoMemory>
@@ -72,7 +72,7 @@ pub(crate) fn start_of<'a, 'o, N: Named, R: IoRuntime>(
 fn blocking_crew<'a, 'o, N: Named, R: IoRuntime>(
     rt: &R,
     alloc: Global,
-    shared: &'a Shared<'o, N>,
+    shared: &'a WorkersShared<'o, N>,
     desk: &Desk<N>,
     shares: &'a mut [Share],
 ) -> Result<(ServerCrew<'a, 'o, N>, FirstAsks), NoMemory>
@@ -98,7 +98,7 @@ fn blocking_crew<'a, 'o, N: Named, R: IoRuntime>(
 fn event_crew<'a, 'o, N: Named, R: IoRuntime>(
     rt: &R,
     alloc: Global,
-    shared: &'a Shared<'o, N>,
+    shared: &'a WorkersShared<'o, N>,
     desk: &Desk<N>,
     shares: &'a mut [Share],
 ) -> Result<(ServerCrew<'a, 'o, N>, FirstAsks), NoMemory>

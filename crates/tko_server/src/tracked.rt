@@ -2,16 +2,16 @@
 ghost use Rattle.std.specs.Prelude.{◌≡◌, IfErr, IfOk, length};
 ghost use Rattle.tko_tracker.specs.Seated.{ArePasses};
 ghost use Rattle.tko_server.specs.Announcing.{IsAnnounced, fault_in};
-ghost use Rattle.tko_server.specs.Closing.{HasFailed, HasRun, IsClosed, unclosed};
+ghost use Rattle.tko_server.specs.Closing.{HasRun, HasRunFailed, IsClosed, unclosed};
 ghost use Rattle.tko_server.specs.Endings.{IsEnough};
 ghost use Rattle.tko_server.specs.Runs.{IsAfterOpening, tracker_settings};
 
 use crate::crew::WorkerKind;
-use crate::ending::Served;
-use crate::members::Shared;
+use crate::ending::ServedReport;
+use crate::members::WorkersShared;
 use crate::naming::Naming;
 use crate::serving::serve_all;
-use crate::{Announce, Ended, Options, Ran, RunFault};
+use crate::{Announce, Ended, Options, Ran, ServerRunFault};
 use std::alloc::Global;
 use std::net::TcpListener;
 use std::snapshot::Snapshot;
@@ -27,7 +27,7 @@ use tko_tracker::{Final, IdlePass, Named, Tracker, close};
 /// Why a server ended without its totals, and what was left of its tracker.
 #[derive(Drop)]
 pub(crate) struct Failed {
-    pub(crate) fault: RunFault,
+    pub(crate) fault: ServerRunFault,
     /// None where a pass did not come back, so that the tracker could not be closed.
     pub(crate) closed: Option<Final>,
 }
@@ -57,7 +57,7 @@ pub(crate) fn run_with<
     ensures closed { IfOk result.1 (λ ended. IsClosed N.tracker ended.closed) }
     ensures enough { IfOk result.1 (λ ended.
         IsEnough options.now.connections ended.accepted) }
-    ensures failed { IfErr result.1 (HasFailed N.tracker) }
+    ensures failed { IfErr result.1 (HasRunFailed N.tracker) }
     ensures announced { IsAnnounced A.announces A.fails announcement result.0
         (fault_in result.1) }
 {
@@ -101,12 +101,12 @@ pub(crate) fn run_with<
 }
 
 /// The fault of a server that came to this, and whose tracker could not be closed.
-fn unclosed<T>(served: &Result<T, RunFault>) -> RunFault
+fn unclosed<T>(served: &Result<T, ServerRunFault>) -> ServerRunFault
     ensures { result ≡ unclosed served.now }
 {
     match served {
-        Err(RunFault::Announce) => RunFault::Announce,
-        _ => RunFault::Memory,
+        Err(ServerRunFault::Announce) => ServerRunFault::Announce,
+        _ => ServerRunFault::Memory,
     }
 }
 
@@ -127,7 +127,7 @@ fn serve_over<
     tracker: &'o Tracker,
     desk: &Desk<N>,
     announcement: A,
-) -> (A, Result<(Totals, Served, Ran), RunFault>)
+) -> (A, Result<(Totals, ServedReport, Ran), ServerRunFault>)
     requires named { tracker.now ≡ N.tracker }
     requires asked { N.tracker.settings ≡ tracker_settings options.now }
     ensures ran { IfOk result.1 (λ served. HasRun options.now N.tracker served.2) }
@@ -138,7 +138,7 @@ fn serve_over<
 {
     let Ok((shared, mut shares)) = shared_by_all::<N, R>(rt, alloc, options, kind, log, tracker)
     else {
-        return (announcement, Err(RunFault::Memory));
+        return (announcement, Err(ServerRunFault::Memory));
     };
     let (announcement, served) = serve_all(
         rt,
@@ -160,7 +160,7 @@ fn serve_over<
 }
 
 /// What the workers that share this ran on, over this tracker.
-fn ran_on<N: Named>(shared: &Shared<'_, N>, tracker: &Tracker) -> Ran
+fn ran_on<N: Named>(shared: &WorkersShared<'_, N>, tracker: &Tracker) -> Ran
     ensures { HasRun shared.now.options.now tracker.now result }
 {
     Ran {
@@ -181,7 +181,7 @@ fn shared_by_all<
     kind: WorkerKind,
     log: Option<&'o Log>,
     tracker: &'o Tracker,
-) -> Result<(Shared<'o, N>, Vec<Share>), NoMemory>
+) -> Result<(WorkersShared<'o, N>, Vec<Share>), NoMemory>
     requires named { tracker.now ≡ N.tracker }
     requires asked { N.tracker.settings ≡ tracker_settings options.now }
     ensures options { IfOk result (λ both. both.0.options.now ≡ options.now) }
@@ -189,7 +189,7 @@ fn shared_by_all<
 {
     let naming = Naming::start(rt, alloc, options.config.addresses())?;
     let (book, shares) = Book::open(alloc, 0, options.settings.threads)?;
-    let shared = Shared {
+    let shared = WorkersShared {
         options,
         seating: SharedSeating::<N>::new(tracker, options.config.servers() as usize),
         book: Mutex::new(book),

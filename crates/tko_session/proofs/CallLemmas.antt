@@ -8,7 +8,7 @@ use Rattle.tko_text.specs.Reading.{Reading}
 use Rattle.tko_text.specs.SentRequests.{without_noreply}
 use Rattle.tko_links.specs.declared.links.Outcome.{Outcome}
 use Rattle.tko_pools.specs.Configs.{AreServers, Configuration}
-use Rattle.tko_route.specs.Calls.{Call, Told}
+use Rattle.tko_route.specs.Calls.{RoutedCall, Told}
 use Rattle.tko_route.specs.Routing.{GoesOn}
 use Rattle.tko_route.specs.Trail.{form_at}
 use Rattle.tko_route.specs.declared.attempt.Attempt.{Attempt}
@@ -16,7 +16,7 @@ use Rattle.tko_route.specs.declared.routing.Stage.{Stage}
 use Rattle.tko_reply.specs.Asking.{Goes, GoesTo, course_of}
 use Rattle.tko_reply.specs.Cuts.{EndsBy, KeyLost}
 use Rattle.tko_reply.specs.Sends.{AfterSend}
-use Rattle.tko_reply.specs.Standing.{Asking}
+use Rattle.tko_reply.specs.Standing.{SentKey}
 use Rattle.tko_reply.specs.declared.asking.OneKey.{OneKey}
 use Rattle.tko_session.specs.Driven.{KeyBegun, KeyDropped, OutcomeDropped, OutcomeTaken, dropped, step_of, work_of}
 use Rattle.tko_session.specs.SessionState.{SessionState}
@@ -26,21 +26,21 @@ use Rattle.tko_session.specs.declared.session.KeyWait.{KeyWait}
 use Rattle.tko_session.specs.declared.session.KeyWait.TheVariants as wait
 use Rattle.tko_session.specs.declared.step.Step.{Step}
 
-module _ {H : Type 0} {steps : H → HealthItem → H → Type 0} {old new : H} {P Q : List Call → Type 0} where
+module _ {H : Type 0} {steps : H → HealthItem → H → Type 0} {old new : H} {P Q : List RoutedCall → Type 0} where
   -- what follows from what holds of the calls
-  pub going : GoesOn steps old P new → ((calls : List Call) → P calls → Q calls) → GoesOn steps old Q new
+  pub going : GoesOn steps old P new → ((calls : List RoutedCall) → P calls → Q calls) → GoesOn steps old Q new
   going on then = record { items = on.items; gains = on.gains; is = then (map Told on.items) on.is }
 
-module _ {H : Type 0} {steps : H → HealthItem → H → Type 0} {old mid new : H} {P Q R : List Call → Type 0} where
+module _ {H : Type 0} {steps : H → HealthItem → H → Type 0} {old mid new : H} {P Q R : List RoutedCall → Type 0} where
   -- some calls and then more
-  pub going_then : GoesOn steps old P mid → GoesOn steps mid Q new → ((calls more : List Call) → P calls → Q more → R (calls ++ more)) → GoesOn steps old R new
+  pub going_then : GoesOn steps old P mid → GoesOn steps mid Q new → ((calls more : List RoutedCall) → P calls → Q more → R (calls ++ more)) → GoesOn steps old R new
   going_then front back then = record {
     items = front.items ++ back.items;
     gains = gains_append front.gains back.gains;
     is = subst R (sym (map-append Told front.items back.items)) (then (map Told front.items) (map Told back.items) front.is back.is);
   }
 
-module _ {H : Type 0} {steps : H → HealthItem → H → Type 0} {P : List Call → Type 0} where
+module _ {H : Type 0} {steps : H → HealthItem → H → Type 0} {P : List RoutedCall → Type 0} where
   -- no call at all
   pub going_none : (health : H) → P [] → GoesOn steps health P health
   going_none health is = record { items = []; gains = gains_none health; is = is }
@@ -52,10 +52,10 @@ key_of_work key (wait.Sent waiting) = refl
 key_of_work key wait.Tried = refl
 
 -- one send is out
-pub awaits_same : (it other : Asking) → work.Awaits it ≡ work.Awaits other → it ≡ other
+pub awaits_same : (it other : SentKey) → work.Awaits it ≡ work.Awaits other → it ≡ other
 awaits_same it other same = cc
 
-pub read_work : (key : OneKey) (at : KeyWait) → IsSome (work.read_in (key_work key at)) → key_work key at ≡ work.Read key
+pub read_work : (key : OneKey) (at : KeyWait) → IsSome (work.request_read_in (key_work key at)) → key_work key at ≡ work.Read key
 read_work key wait.Read some = refl
 read_work key (wait.Sent waiting) some = absurd (cc some)
 read_work key wait.Tried some = absurd (cc some)
@@ -79,7 +79,7 @@ is_went at key reading outbox requests owes begin targets = record {
 
 module _ {config : Configuration} where
   -- a key was asked for
-  pub key_begun : {old new : SessionState} {said : Step} (one : OneKey) (at : Stage) (key : OneKey) (calls : List Call)
+  pub key_begun : {old new : SessionState} {said : Step} (one : OneKey) (at : Stage) (key : OneKey) (calls : List RoutedCall)
       (front : List ℕ) (reading : Reading) (outbox : List ℕ) (requests : ℕ) (owes : Bool) (begin : ℕ) (targets : List ℕ)
       → Goes (course_of config targets one (without_noreply one.request)) calls front at key outbox
       → GoesTo config one.request targets → AreServers config targets
@@ -102,7 +102,7 @@ module _ {config : Configuration} where
       }
 
   -- memory ran out there
-  pub key_dropped : {old new : SessionState} {attempts' : List Attempt} (one : OneKey) (calls : List Call) (attempts : List Attempt) (targets : List ℕ)
+  pub key_dropped : {old new : SessionState} {attempts' : List Attempt} (one : OneKey) (calls : List RoutedCall) (attempts : List Attempt) (targets : List ℕ)
       → KeyLost config one.request calls attempts → attempts' ≡ attempts → new ≡ record (dropped old) { targets = targets }
       → KeyDropped config one old calls attempts' new
   key_dropped {old} {new} one calls attempts targets lost same is = record {
@@ -111,7 +111,7 @@ module _ {config : Configuration} where
   }
 
   -- what came of a send was recorded
-  pub outcome_taken : {old new : SessionState} {said : Step} (outcome : Outcome) (it : Asking) (at : Stage) (key : OneKey) (calls : List Call)
+  pub outcome_taken : {old new : SessionState} {said : Step} (outcome : Outcome) (it : SentKey) (at : Stage) (key : OneKey) (calls : List RoutedCall)
       (aimed front : List ℕ) (reading : Reading) (outbox : List ℕ) (requests : ℕ) (owes : Bool) (begin : ℕ) (targets : List ℕ)
       → AfterSend config it outcome (λ original before. Goes (course_of config aimed it.key original) (before calls) front at key outbox)
       → said ≡ step_of at → new ≡ is_went at key reading outbox requests owes begin targets
@@ -132,7 +132,7 @@ module _ {config : Configuration} where
       }
 
   -- memory ran out there
-  pub outcome_dropped : {old new : SessionState} {attempts' : List Attempt} (outcome : Outcome) (it : Asking) (calls : List Call) (attempts : List Attempt) (aimed : List ℕ)
+  pub outcome_dropped : {old new : SessionState} {attempts' : List Attempt} (outcome : Outcome) (it : SentKey) (calls : List RoutedCall) (attempts : List Attempt) (aimed : List ℕ)
       → AfterSend config it outcome (λ original before. EndsBy aimed (form_at config.failover_exptime original) (before calls) attempts)
       → attempts' ≡ attempts → aimed ≡ old.targets → new ≡ dropped old → OutcomeDropped config it outcome old calls attempts' new
   outcome_dropped {old} {attempts' = attempts'} outcome it calls attempts aimed lost same aims is =

@@ -5,10 +5,10 @@ use Rattle.tko_text.specs.declared.request.Request.{Request}
 use Rattle.tko_text.specs.Requests.{fault_text}
 use Rattle.tko_links.specs.declared.links.Outcome.{Outcome}
 use Rattle.tko_pools.specs.Configs.{Configuration}
-use Rattle.tko_route.specs.Calls.{Call}
+use Rattle.tko_route.specs.Calls.{RoutedCall}
 use Rattle.tko_route.specs.declared.attempt.Attempt.{Attempt}
 use Rattle.tko_reply.specs.Interactions.{Interaction, Made, Noted, Recorded, marks_of}
-use Rattle.tko_reply.specs.Standing.{Asking}
+use Rattle.tko_reply.specs.Standing.{SentKey}
 use Rattle.tko_reply.specs.TrailEvents.{Asked, Tried}
 use Rattle.tko_keys.specs.KeysState.{KeysState}
 use Rattle.tko_keys.specs.declared.plan.KeyPlan.{KeyPlan}
@@ -19,7 +19,7 @@ use Rattle.tko_session.specs.Clients as clients
 use Rattle.tko_session.specs.Driven.{AwaitedTaken, MayGoOn, WasDropped, WasDroppedFrom, WentOn, WentOnFrom, dropped}
 use Rattle.tko_session.specs.SessionState.{SessionState}
 use Rattle.tko_session.specs.SoFar.{IsKeyPast, IsPendingAt, IsSentFor}
-use Rattle.tko_session.specs.Turns.{IsTurnWithin, Turn}
+use Rattle.tko_session.specs.Turns.{IsTurnWithin, SessionTurn}
 use Rattle.tko_session.specs.Turns as turn
 use Rattle.tko_session.specs.Working.{Between, Work}
 use Rattle.tko_session.specs.Working as work
@@ -66,7 +66,7 @@ module _ {plan : KeyPlan} {keys : Option KeysState} {config : Configuration} whe
       under_open asks.it [] from asks.are asks.under
       (subst (λ w. IsPendingAt plan keys config (record { request = asks.it; front = old.outbox; done = [] }) w new.targets new.outbox) (sym asks.at) far)
 
-  out_open : {it : Life} {old : SessionState} {last : List Interaction} {owes : Bool} {clear : ℕ} {sent : Asking} {new : SessionState} → IsFrom plan config it old last
+  out_open : {it : Life} {old : SessionState} {last : List Interaction} {owes : Bool} {clear : ℕ} {sent : SentKey} {new : SessionState} → IsFrom plan config it old last
       → IsOutAt config old owes last clear sent new → IsClientOpen plan keys config it new
   out_open {old = old} {new = new} from out =
       under_open out.it out.was from out.are out.under
@@ -86,13 +86,13 @@ module _ {plan : KeyPlan} (keys : Option KeysState) {config : Configuration} whe
       subst (λ a. IsClientIn (phase_after (step.At a)) plan keys config it new) (sym says)
       (subst (IsClientOpen plan keys config it) (sym same) (idle_open base from.idle))
   over_open {it} {old} {last} {new = new} at from (refused fault emits nothing says same) =
-      let one : Turn = record { item = item.Fault fault; routed = []; text = fault_text fault } in
+      let one : SessionTurn = record { item = item.Fault fault; routed = []; text = fault_text fault } in
       let is : IsTurnWithin plan config one last = turn.in_turn (turn.refused fault refl refl refl nothing) in
       subst (λ a. IsClientIn (phase_after (step.At a)) plan keys config it new) (sym says)
       (end_turn keys new _ one from.base is emits (fault_progress fault old.reading new.reading emits) (ap (λ (s : SessionState). s.outbox) same)
       (ap (λ (s : SessionState). s.work) same ∙ from.idle) (omega (arith, ap (λ (s : SessionState). s.requests) same)))
   over_open {it} {old} {last} {new = new} at from (replied done) =
-      let one : Turn = record { item = item.Request done.it; routed = done.answered.routed; text = done.answered.text } in
+      let one : SessionTurn = record { item = item.Request done.it; routed = done.answered.routed; text = done.answered.text } in
       subst (λ a. IsClientIn (phase_after (step.At a)) plan keys config it new) (sym done.says)
       (end_turn keys new _ one from.base (turn.in_turn (turn.answered done.it done.was refl done.are done.answered.answers)) done.emits (request_progress done.it new.reading) done.answered.appended
       done.between done.requests)
@@ -171,7 +171,7 @@ data MayGo (plan : KeyPlan) (config : Configuration) (it : Life) (state : Sessio
   past : (old : SessionState) (last : List Interaction) → IsFrom plan config it old last → IsPastAt config old state.owes last state → MayGo plan config it state
 
 -- a send of a session is out
-record IsWaiting (plan : KeyPlan) (config : Configuration) (it : Life) (state : SessionState) (sent : Asking) : Type 0 where
+record IsWaiting (plan : KeyPlan) (config : Configuration) (it : Life) (state : SessionState) (sent : SentKey) : Type 0 where
   old : SessionState
   last : List Interaction
   from : IsFrom plan config it old last
@@ -217,7 +217,7 @@ module _ {plan : KeyPlan} {keys : Option KeysState} {config : Configuration} whe
       })
   may_go work.HandedOver s is may = absurd may
 
-  waiting : {it : Life} {state : SessionState} (sent : Asking) → IsClientOpen plan keys config it state → state.work ≡ work.Awaits sent → IsWaiting plan config it state sent
+  waiting : {it : Life} {state : SessionState} (sent : SentKey) → IsClientOpen plan keys config it state → state.work ≡ work.Awaits sent → IsWaiting plan config it state sent
   waiting {it} {state} sent s is =
       let on = open_on (work.Awaits sent) s is (between_or_awaits sent) in
       let far : IsSentFor config on.under sent state.targets state.outbox = on.far in
@@ -237,14 +237,14 @@ module _ {plan : KeyPlan} {keys : Option KeysState} {config : Configuration} whe
       }
 
 -- a call goes on only where the session may go on by itself
-went_may : (config : Configuration) (at : Work) (state : SessionState) (calls : List Call) (said : Step) (new : SessionState) → WentOnFrom config at state calls said new → MayGoOn at
+went_may : (config : Configuration) (at : Work) (state : SessionState) (calls : List RoutedCall) (said : Step) (new : SessionState) → WentOnFrom config at state calls said new → MayGoOn at
 went_may config work.Between state calls said new on = tt
 went_may config (work.Read one) state calls said new on = tt
 went_may config (work.Awaits sent) state calls said new on = on
 went_may config (work.Ended one) state calls said new on = tt
 went_may config work.HandedOver state calls said new on = on
 
-lost_may : (config : Configuration) (at : Work) (state : SessionState) (calls : List Call) (attempts : List Attempt) (new : SessionState)
+lost_may : (config : Configuration) (at : Work) (state : SessionState) (calls : List RoutedCall) (attempts : List Attempt) (new : SessionState)
     → WasDroppedFrom config at state calls attempts new → MayGoOn at
 lost_may config work.Between state calls attempts new lost = tt
 lost_may config (work.Read one) state calls attempts new lost = tt
@@ -254,19 +254,19 @@ lost_may config work.HandedOver state calls attempts new lost = lost
 
 module _ {plan : KeyPlan} (keys : Option KeysState) {config : Configuration} where
   -- the session went on
-  went_from : {it : Life} {state : SessionState} (calls : List Call) (said : Step) (new : SessionState) → MayGo plan config it state → WentOn config state calls said new
+  went_from : {it : Life} {state : SessionState} (calls : List RoutedCall) (said : Step) (new : SessionState) → MayGo plan config it state → WentOn config state calls said new
       → Gone plan keys config it (map Made calls) said new
   went_from {state = state} calls said new (idle from) on = item_open keys (map Made calls) said from (read_went state.owes calls from.idle on)
   went_from calls said new (asks old last from it) on = item_open keys (map Made calls) said from (asked_went calls it on)
   went_from calls said new (past old last from it) on = item_open keys (map Made calls) said from (past_went calls it on)
 
 module _ {plan : KeyPlan} {keys : Option KeysState} {config : Configuration} where
-  pub went_open : {it : Life} {state : SessionState} (calls : List Call) (said : Step) (new : SessionState) → IsClientOpen plan keys config it state
+  pub went_open : {it : Life} {state : SessionState} (calls : List RoutedCall) (said : Step) (new : SessionState) → IsClientOpen plan keys config it state
       → WentOn config state calls said new → Gone plan keys config it (map Made calls) said new
   went_open {state = state} calls said new s on = went_from keys calls said new (may_go state.work s refl (went_may config state.work state calls said new on)) on
 
   -- it took what came of its send
-  pub took_open : {it : Life} {state : SessionState} {calls : List Call} {said : Step} {new : SessionState} (sent : Asking) (got : Outcome) → IsClientOpen plan keys config it state
+  pub took_open : {it : Life} {state : SessionState} {calls : List RoutedCall} {said : Step} {new : SessionState} (sent : SentKey) (got : Outcome) → IsClientOpen plan keys config it state
       → state.work ≡ work.Awaits sent → AwaitedTaken config got state calls said new
       → Gone plan keys config it (came_to sent (Ok got) ∷ map Made calls) said new
   took_open {calls = calls} {said = said} sent got s is took =
@@ -275,7 +275,7 @@ module _ {plan : KeyPlan} {keys : Option KeysState} {config : Configuration} whe
 
 module _ {plan : KeyPlan} {config : Configuration} where
   -- memory ran out where it went on
-  lost_from : {it : Life} {state : SessionState} (calls : List Call) (attempts : List Attempt) (new : SessionState) → MayGo plan config it state → WasDropped config state calls attempts new
+  lost_from : {it : Life} {state : SessionState} (calls : List RoutedCall) (attempts : List Attempt) (new : SessionState) → MayGo plan config it state → WasDropped config state calls attempts new
       → IsClientShort plan config (did it (map Made calls ++ marks_of attempts)) new
   lost_from {state = state} calls attempts new (idle from) lost =
       cut_short (more_from (map Made calls ++ marks_of attempts) from) (read_cut_at state.owes calls attempts from.idle lost)
@@ -285,7 +285,7 @@ module _ {plan : KeyPlan} {config : Configuration} where
       cut_short (more_from (map Made calls ++ marks_of attempts) from) (past_cut_at calls attempts it lost)
 
   -- or where what it did could not be recorded
-  kept_from : {it : Life} {state : SessionState} (calls : List Call) (said : Step) (mid new : SessionState) → MayGo plan config it state → WentOn config state calls said mid
+  kept_from : {it : Life} {state : SessionState} (calls : List RoutedCall) (said : Step) (mid new : SessionState) → MayGo plan config it state → WentOn config state calls said mid
       → IsToRecord said → new ≡ dropped mid → IsClientShort plan config (did it (map Made calls ++ left_after said)) new
   kept_from {state = state} calls said mid new (idle from) on records same =
       unrecorded_short (map Made calls) said from (read_went state.owes calls from.idle on) records same

@@ -5,12 +5,12 @@ use Rattle.tko_model.specs.Records.{Gains}
 use Rattle.tko_model.proofs.RecordLemmas.{gains_append, gains_one}
 use Rattle.tko_health.specs.declared.health.Health.{Ghosts as HealthGhosts}
 use Rattle.tko_links.specs.declared.links.Links.{Ghosts as LinksGhosts}
-use Rattle.tko_links.specs.declared.links.NoMemory.{NoMemory}
+use Rattle.tko_links.specs.declared.links.ExchangeNoMemory.{ExchangeNoMemory}
 use Rattle.tko_links.specs.declared.links.Outcome.{Outcome}
 use Rattle.tko_pools.specs.Configs.{Configuration}
 use Rattle.tko_io.specs.declared.clock.Clock.{Ghosts as ClockGhosts}
 use Rattle.tko_text.specs.declared.request.Request.{Request}
-use Rattle.tko_route.specs.Calls.{Call, IsExchange, Upstream, upstream}
+use Rattle.tko_route.specs.Calls.{IsExchange, RoutedCall, Upstream, upstream}
 use Rattle.tko_route.specs.declared.attempt.Attempt.{Attempt}
 use Rattle.tko_route.specs.declared.routing.Stage.{Stage}
 use Rattle.tko_route.specs.declared.routing.Stage.TheVariants as stage
@@ -32,7 +32,7 @@ use Rattle.tko_session.proofs.FollowingLemmas.{IsOn, IsOnAt, IsOutFor, IsOver, I
 use Rattle.tko_session.proofs.ItemLemmas.{IsAskedAt, IsItem, IsItemAt, asked_went, out_took, past_went, read_went, taken_asked, tried_past}
 
 -- the server that the permission names is the one that the key waits for
-pub sent_to : {H L : Type 0} {servers : Upstream H L} {old new : L} {clear server : ℕ} {request : Request} {result : Result Outcome NoMemory} → clear ≡ server
+pub sent_to : {H L : Type 0} {servers : Upstream H L} {old new : L} {clear server : ℕ} {request : Request} {result : Result Outcome ExchangeNoMemory} → clear ≡ server
     → IsExchange servers old (record { server = clear; request = request; result = result }) new
     → IsExchange servers old (record { server = server; request = request; result = result }) new
 sent_to {servers = servers} {old = old} {new = new} {request = request} {result = result} names exchange =
@@ -48,7 +48,7 @@ something_before {one} {done} {was} more are same =
 
 module _ {H L T C : Type 0} (health : HealthGhosts H) (links : LinksGhosts L) (trails : TrailsGhosts T) (clock : ClockGhosts C) where
   -- the next item was read
-  pub read_on : {old : Snapshot (Parts H L T C)} (calls : List Call) {said : Step} {new : SessionState} (after : Parts H L T C) → IsSettled old.state
+  pub read_on : {old : Snapshot (Parts H L T C)} (calls : List RoutedCall) {said : Step} {new : SessionState} (after : Parts H L T C) → IsSettled old.state
       → length old.state.outbox < reply_bound → WentOn old.parts.config old.state calls said new
       → Gains (Interacts (parts_ghosts health links trails clock)) old.parts (map Made calls) after
       → IsOn health links trails clock old said (snapshot new after)
@@ -69,7 +69,7 @@ module _ {H L T C : Type 0} (health : HealthGhosts H) (links : LinksGhosts L) (t
       subst (λ p. Gains (Interacts (parts_ghosts health links trails clock)) p (Recorded (Asked taken.it) ∷ []) (record now.parts { trails = told })) taken.parts gains
 
   -- and begun
-  pub taken_on : {old now : Snapshot (Parts H L T C)} {told : T} (calls : List Call) {said : Step} {new : SessionState} (after : Parts H L T C)
+  pub taken_on : {old now : Snapshot (Parts H L T C)} {told : T} (calls : List RoutedCall) {said : Step} {new : SessionState} (after : Parts H L T C)
       → old.state.owes ≡ false → length old.state.outbox < reply_bound
       → (taken : IsTaken health links trails clock old now) → trails.records now.parts.trails (Asked taken.it) told
       → WentOn now.parts.config now.state calls said new
@@ -97,7 +97,7 @@ module _ {H L T C : Type 0} (health : HealthGhosts H) (links : LinksGhosts L) (t
       (subst (λ (p : Parts H L T C). IsPastFor health links trails clock old (snapshot now.state p)) (sym noted) (past_for tried recorded))
 
   -- the session went on after a key
-  pub past_on : {old now : Snapshot (Parts H L T C)} (calls : List Call) {said : Step} {new : SessionState} (after : Parts H L T C)
+  pub past_on : {old now : Snapshot (Parts H L T C)} (calls : List RoutedCall) {said : Step} {new : SessionState} (after : Parts H L T C)
       → old.state.owes ≡ false → length old.state.outbox < reply_bound → IsPastFor health links trails clock old now
       → WentOn now.parts.config now.state calls said new
       → Gains (Interacts (parts_ghosts health links trails clock)) now.parts (map Made calls) after
@@ -114,7 +114,7 @@ module _ {H L T C : Type 0} (health : HealthGhosts H) (links : LinksGhosts L) (t
   key_on {done} old now (stage.Done trail) gains it = record { done = done; gains = gains; tried = it }
 
   -- what came of a send was recorded
-  pub outcome_on : {old now : Snapshot (Parts H L T C)} {clear : ℕ} {mid : L} {got : Outcome} {calls : List Call} {said : Step} {new : SessionState} (after : Parts H L T C)
+  pub outcome_on : {old now : Snapshot (Parts H L T C)} {clear : ℕ} {mid : L} {got : Outcome} {calls : List RoutedCall} {said : Step} {new : SessionState} (after : Parts H L T C)
       → (out : IsOutFor health links trails clock old clear now)
       → IsExchange (upstream health links) now.parts.backend.links (record { server = clear; request = out.sent.key.request; result = Ok got }) mid
       → ((server : ℕ) → links.probed mid server ≡ links.probed now.parts.backend.links server)
@@ -134,7 +134,7 @@ module _ {H L T C : Type 0} (health : HealthGhosts H) (links : LinksGhosts L) (t
       })
 
   -- the same over the parts after the send, with what health then was asked and told
-  pub sent_on_after : {old now : Snapshot (Parts H L T C)} {sent : Parts H L T C} {clear : ℕ} {mid : L} {got : Outcome} {calls : List Call} {said : Step} {new : SessionState} (after : H)
+  pub sent_on_after : {old now : Snapshot (Parts H L T C)} {sent : Parts H L T C} {clear : ℕ} {mid : L} {got : Outcome} {calls : List RoutedCall} {said : Step} {new : SessionState} (after : H)
       → sent ≡ with_links mid now.parts → (out : IsOutFor health links trails clock old clear now)
       → IsExchange (upstream health links) now.parts.backend.links (record { server = clear; request = out.sent.key.request; result = Ok got }) mid
       → ((server : ℕ) → links.probed mid server ≡ links.probed now.parts.backend.links server)

@@ -7,7 +7,7 @@ use Rattle.tko_links.specs.declared.links.Links.{Ghosts as LinksGhosts}
 use Rattle.tko_links.specs.declared.links.Outcome.{Outcome}
 use Rattle.tko_pools.specs.Configs.{Configuration}
 use Rattle.tko_io.specs.declared.clock.Clock.{Ghosts as ClockGhosts}
-use Rattle.tko_route.specs.Calls.{Call, IsExchange, upstream}
+use Rattle.tko_route.specs.Calls.{IsExchange, RoutedCall, upstream}
 use Rattle.tko_route.specs.declared.attempt.Attempt.{Attempt}
 use Rattle.tko_reply.specs.Ghosts.{PartsGhosts, parts_ghosts}
 use Rattle.tko_reply.specs.Interactions.{Interacts, Made, Noted, marks_of, with_health, with_links, with_noted}
@@ -33,7 +33,7 @@ marks_gained ghosts old (one ∷ attempts) = gains_one refl
 
 module _ {H L T C : Type 0} (health : HealthGhosts H) (links : LinksGhosts L) (trails : TrailsGhosts T) (clock : ClockGhosts C) where
   -- the next item was read
-  pub read_cut : {old : Snapshot (Parts H L T C)} (calls : List Call) (attempts : List Attempt) {new : SessionState} (after : Parts H L T C) → IsSettled old.state
+  pub read_cut : {old : Snapshot (Parts H L T C)} (calls : List RoutedCall) (attempts : List Attempt) {new : SessionState} (after : Parts H L T C) → IsSettled old.state
       → WasDropped old.parts.config old.state calls attempts new
       → Gains (Interacts (parts_ghosts health links trails clock)) old.parts (map Made calls) after
       → IsCut health links trails clock old (snapshot new (with_noted attempts after))
@@ -51,7 +51,7 @@ module _ {H L T C : Type 0} (health : HealthGhosts H) (links : LinksGhosts L) (t
       (cut_item health links trails clock {new = snapshot new old.parts} none (gains_none old.parts) at)
 
   -- a request was recorded and begun
-  pub taken_cut : {old now : Snapshot (Parts H L T C)} {told : T} (calls : List Call) (attempts : List Attempt) {new : SessionState} (after : Parts H L T C) → old.state.owes ≡ false
+  pub taken_cut : {old now : Snapshot (Parts H L T C)} {told : T} (calls : List RoutedCall) (attempts : List Attempt) {new : SessionState} (after : Parts H L T C) → old.state.owes ≡ false
       → (it : IsTaken health links trails clock old now) → trails.records now.parts.trails (Asked it.it) told
       → WasDropped now.parts.config now.state calls attempts new
       → Gains (Interacts (parts_ghosts health links trails clock)) (record now.parts { trails = told }) (map Made calls) after
@@ -70,7 +70,7 @@ module _ {H L T C : Type 0} (health : HealthGhosts H) (links : LinksGhosts L) (t
       (cut_item health links trails clock {new = snapshot new (with_noted trail now.parts)} none (gains_append it.gains (gains_one refl)) (tried_lost it.tried is))
 
   -- after a trail was recorded
-  pub past_lost : {old now : Snapshot (Parts H L T C)} (calls : List Call) (attempts : List Attempt) {new : SessionState} (after : Parts H L T C) → old.state.owes ≡ false
+  pub past_lost : {old now : Snapshot (Parts H L T C)} (calls : List RoutedCall) (attempts : List Attempt) {new : SessionState} (after : Parts H L T C) → old.state.owes ≡ false
       → IsPastFor health links trails clock old now → WasDropped now.parts.config now.state calls attempts new
       → Gains (Interacts (parts_ghosts health links trails clock)) now.parts (map Made calls) after
       → IsCut health links trails clock old (snapshot new (with_noted attempts after))
@@ -81,7 +81,7 @@ module _ {H L T C : Type 0} (health : HealthGhosts H) (links : LinksGhosts L) (t
       (past_cut_at calls attempts it.past (subst (λ (c : Configuration). WasDropped c now.state calls attempts new) (config_kept ghosts it.gains) lost))
 
   -- where the outcome was recorded
-  pub outcome_cut : {old now : Snapshot (Parts H L T C)} {clear : ℕ} {mid : L} {got : Outcome} {calls : List Call} {attempts : List Attempt} {new : SessionState} (after : Parts H L T C) → old.state.owes ≡ false
+  pub outcome_cut : {old now : Snapshot (Parts H L T C)} {clear : ℕ} {mid : L} {got : Outcome} {calls : List RoutedCall} {attempts : List Attempt} {new : SessionState} (after : Parts H L T C) → old.state.owes ≡ false
       → (out : IsOutFor health links trails clock old clear now)
       → IsExchange (upstream health links) now.parts.backend.links (record { server = clear; request = out.sent.key.request; result = Ok got }) mid
       → ((server : ℕ) → links.probed mid server ≡ links.probed now.parts.backend.links server)
@@ -114,7 +114,7 @@ module _ {H L T C : Type 0} (health : HealthGhosts H) (links : LinksGhosts L) (t
 
   -- the same two over the parts after the send: where the outcome was recorded, with what health then
   -- was asked and told
-  pub sent_cut_after : {old now : Snapshot (Parts H L T C)} {sent : Parts H L T C} {clear : ℕ} {mid : L} {got : Outcome} {calls : List Call} {attempts : List Attempt} {new : SessionState} (after : H)
+  pub sent_cut_after : {old now : Snapshot (Parts H L T C)} {sent : Parts H L T C} {clear : ℕ} {mid : L} {got : Outcome} {calls : List RoutedCall} {attempts : List Attempt} {new : SessionState} (after : H)
       → sent ≡ with_links mid now.parts → old.state.owes ≡ false
       → (out : IsOutFor health links trails clock old clear now)
       → IsExchange (upstream health links) now.parts.backend.links (record { server = clear; request = out.sent.key.request; result = Ok got }) mid

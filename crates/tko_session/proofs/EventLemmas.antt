@@ -7,7 +7,7 @@ use Rattle.std.proofs.lemmas.List.Folds.{list_any-append}
 use Rattle.std.proofs.lemmas.List.Sums.{sum_by-append}
 use Rattle.tko_reply.specs.declared.parts.Parts.{Parts}
 use Rattle.tko_model.specs.Records.{Lead}
-use Rattle.tko_session.specs.Events.{Event, NoneAtWork, NoneShort, Rounded, ShortAtMostLast, idle_rounds, is_idle_round, met_prober, owed_after, owed_from, owed_then, turn_in, turns_of, visits_in, visits_of}
+use Rattle.tko_session.specs.Events.{NoneAtWork, NoneShort, Rounded, SessionEvent, ShortAtMostLast, idle_rounds, is_idle_round, met_prober, owed_after, owed_from, owed_then, turn_in, turns_of, visits_in, visits_of}
 use Rattle.std.specs.Prelude.{MatchBool}
 use Rattle.tko_session.specs.AnswerEnds.{IsRun, NoneRun}
 use Rattle.tko_session.specs.SessionState.{Snapshot}
@@ -19,26 +19,26 @@ use Rattle.tko_prober.proofs.BegunLemmas.{round-begun}
 use Rattle.tko_prober.proofs.ProberLemmas.{busy-begun, prober-quiet}
 use Rattle.tko_prober.specs.Round.{Absent, IsRound, IsVisit, Probed, Rested, Stopped, Visit, is_probe, probes_in, ran_out}
 
-pub turns-append : (events more : List Event) → turns_of (events ++ more) ≡ turns_of events ++ turns_of more
+pub turns-append : (events more : List SessionEvent) → turns_of (events ++ more) ≡ turns_of events ++ turns_of more
 turns-append events more = flat_map-append turn_in events more
 
-visits-append : (events more : List Event) → visits_of (events ++ more) ≡ visits_of events ++ visits_of more
+visits-append : (events more : List SessionEvent) → visits_of (events ++ more) ≡ visits_of events ++ visits_of more
 visits-append events more = flat_map-append visits_in events more
 
-pub probes-append : (server : ℕ) (events more : List Event)
+pub probes-append : (server : ℕ) (events more : List SessionEvent)
     → probes_in server (visits_of (events ++ more)) ≡ probes_in server (visits_of events) + probes_in server (visits_of more)
 probes-append server events more =
     ap (probes_in server) (visits-append events more)
     ∙ sum_by-append (λ visit. cond (is_probe server visit) 1 0) (visits_of events) (visits_of more)
 
 -- memory ran out in no round of these, and in none of those
-pub short-append : (events more : List Event) → NoneShort events → NoneShort more → NoneShort (events ++ more)
+pub short-append : (events more : List SessionEvent) → NoneShort events → NoneShort more → NoneShort (events ++ more)
 short-append events more front back =
     ap (list_any ran_out) (visits-append events more) ∙ list_any-append ran_out (visits_of events) (visits_of more)
     ∙ rw (front, back) refl
 
 -- such events, and then events of which the last may be a round in which memory ran out
-pub short-after : (events more : List Event) → NoneShort events → ShortAtMostLast more → ShortAtMostLast (events ++ more)
+pub short-after : (events more : List SessionEvent) → NoneShort events → ShortAtMostLast more → ShortAtMostLast (events ++ more)
 short-after events more none last = record {
   before = events ++ last.before;
   last = last.last;
@@ -47,15 +47,15 @@ short-after events more none last = record {
   one = last.one;
 }
 
-pub short-none : (events : List Event) → NoneShort events → ShortAtMostLast events
+pub short-none : (events : List SessionEvent) → NoneShort events → ShortAtMostLast events
 short-none events none = record { before = events; last = []; parts = sym (append-nil events); memory = none; one = omega arith }
 
 -- memory ran out in the last of these at most
-pub short-last : (events last : List Event) → NoneShort events → length last ≤ 1 → ShortAtMostLast (events ++ last)
+pub short-last : (events last : List SessionEvent) → NoneShort events → length last ≤ 1 → ShortAtMostLast (events ++ last)
 short-last events last none one = record { before = events; last = last; parts = refl; memory = none; one = one }
 
 -- no prober was at work in a round of these, nor of those
-pub work-append : (events more : List Event) → NoneAtWork events → NoneAtWork more → NoneAtWork (events ++ more)
+pub work-append : (events more : List SessionEvent) → NoneAtWork events → NoneAtWork more → NoneAtWork (events ++ more)
 work-append events more front back =
     ap (list_any met_prober) (visits-append events more) ∙ list_any-append met_prober (visits_of events) (visits_of more)
     ∙ rw (front, back) refl
@@ -68,20 +68,20 @@ calm_visits (Stopped server ∷ visits) none = absurd cc
 calm_visits (Rested server ∷ visits) none = absurd cc
 calm_visits (Probed server came moment reply ∷ visits) none = absurd cc
 
-pub work-short : (events : List Event) → NoneAtWork events → NoneShort events
+pub work-short : (events : List SessionEvent) → NoneAtWork events → NoneShort events
 work-short events none = calm_visits (visits_of events) none
 
-pub idles-append : (events more : List Event) → idle_rounds (events ++ more) ≡ idle_rounds events + idle_rounds more
+pub idles-append : (events more : List SessionEvent) → idle_rounds (events ++ more) ≡ idle_rounds events + idle_rounds more
 idles-append events more = sum_by-append (λ event. cond (is_idle_round event) 1 0) events more
 
-owed-append : (owed : Option Bool) (events more : List Event)
+owed-append : (owed : Option Bool) (events more : List SessionEvent)
     → owed_from owed (events ++ more) ≡ owed_from (owed_from owed events) more
 owed-append None events more = refl
 owed-append (Some owed) [] more = refl
 owed-append (Some owed) (event ∷ events) more = owed-append (owed_then owed event) events more
 
 -- events in order, and then events in order
-pub order-append : (first mid last : Bool) (events more : List Event) → owed_after first events ≡ Some mid
+pub order-append : (first mid last : Bool) (events more : List SessionEvent) → owed_after first events ≡ Some mid
     → owed_after mid more ≡ Some last → owed_after first (events ++ more) ≡ Some last
 order-append first mid last events more front back =
     owed-append (Some first) events more ∙ ap (λ owed. owed_from owed more) front ∙ back

@@ -12,14 +12,14 @@ use Rattle.tko_route.specs.declared.attempt.Attempt.{Attempt}
 use Rattle.tko_reply.specs.Ghosts.{parts_ghosts}
 use Rattle.tko_reply.specs.Interactions.{Interaction, Interacts}
 use Rattle.tko_reply.specs.Replies.{reply_bound}
-use Rattle.tko_reply.specs.Standing.{Asking, whole_of}
+use Rattle.tko_reply.specs.Standing.{SentKey, whole_of}
 use Rattle.tko_reply.specs.declared.parts.Parts.{Parts}
 use Rattle.tko_reply.specs.declared.trails.Trails.{Ghosts as TrailsGhosts}
 use Rattle.tko_reply.proofs.InteractionLemmas.{performs}
-use Rattle.tko_session.specs.Driven.{begun_at}
+use Rattle.tko_session.specs.Driven.{with_request_read}
 use Rattle.tko_session.specs.Effects.{effects}
-use Rattle.tko_session.specs.SessionState.{Answered, AnsweredPart, Replied, SessionState, Snapshot, snapshot}
-use Rattle.tko_session.specs.Turns.{IsRequestCut, IsTurn}
+use Rattle.tko_session.specs.SessionState.{AnsweredPart, HasAnswered, Replied, SessionState, Snapshot, snapshot}
+use Rattle.tko_session.specs.Turns.{IsRequestCut, IsSessionTurn}
 use Rattle.tko_session.specs.Turns as turn
 use Rattle.tko_session.specs.declared.step.Progress.{Progress}
 use Rattle.tko_session.specs.declared.step.Progress.TheVariants as progress
@@ -36,7 +36,7 @@ owed_or_not owed unowed = cc
 module _ {H L T C : Type 0} (health : HealthGhosts H) (links : LinksGhosts L) (trails : TrailsGhosts T) (clock : ClockGhosts C) where
   -- the next item was answered, or none is decided
   pub record IsOver (at : Progress) (old now : Snapshot (Parts H L T C)) : Type 0 where
-    pub answered : Answered (effects health links trails clock) at old now
+    pub answered : HasAnswered (effects health links trails clock) at old now
     pub more : at ≡ progress.More → ¬ NeedsMore old.state.reading
     pub unowed : now.state.owes ≡ false → now.parts.backend.probers ≡ old.parts.backend.probers
     pub between : now.state.work ≡ work.Between
@@ -52,13 +52,13 @@ module _ {H L T C : Type 0} (health : HealthGhosts H) (links : LinksGhosts L) (t
     pub it : Request
     pub emits : Emits old.state.reading (item.Request it) now.state.reading
     pub parts : now.parts ≡ old.parts
-    pub state : now.state ≡ begun_at (whole_of it) (record old.state { reading = now.state.reading })
+    pub state : now.state ≡ with_request_read (whole_of it) (record old.state { reading = now.state.reading })
 
   -- a send is out for it
   pub record IsOutFor (old : Snapshot (Parts H L T C)) (clear : ℕ) (now : Snapshot (Parts H L T C)) : Type 0 where
     pub done : List Interaction
     pub gains : Gains (Interacts (parts_ghosts health links trails clock)) old.parts done now.parts
-    pub sent : Asking
+    pub sent : SentKey
     pub at : now.state.work ≡ work.Awaits sent
     pub out : IsOutAt old.parts.config old.state true done clear sent now.state
 
@@ -98,7 +98,7 @@ module _ {H L T C : Type 0} (health : HealthGhosts H) (links : LinksGhosts L) (t
         routed = it.answered.routed;
         text = text;
         becomes =
-            performs (λ config. IsTurn config (record { item = item.Request it.it; routed = it.answered.routed; text = text }))
+            performs (λ config. IsSessionTurn config (record { item = item.Request it.it; routed = it.answered.routed; text = text }))
             (turn.answered it.it it.was refl it.are it.answered.answers) gains;
         reading = refl;
         outbox = it.answered.appended;

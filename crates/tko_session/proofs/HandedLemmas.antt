@@ -29,8 +29,8 @@ use Rattle.tko_session.specs.Acts.{phase_after}
 use Rattle.tko_session.specs.Driven.{dropped}
 use Rattle.tko_session.specs.Handing.{HandsOver, handed_over, replied_by}
 use Rattle.tko_session.specs.SessionState.{SessionState, progress_of}
-use Rattle.tko_session.specs.SoFar.{AreKeysPending, IsPendingAt, Pending}
-use Rattle.tko_session.specs.Turns.{IsRequestCut, IsRequestCutWithin, IsTurn, IsTurnWithin, Turn}
+use Rattle.tko_session.specs.SoFar.{AreKeysPending, IsPendingAt, PendingRequest}
+use Rattle.tko_session.specs.Turns.{IsRequestCut, IsRequestCutWithin, IsSessionTurn, IsTurnWithin, SessionTurn}
 use Rattle.tko_session.specs.Turns as turn
 use Rattle.tko_session.specs.Working as work
 use Rattle.tko_session.specs.declared.step.Progress.TheVariants as progress
@@ -82,7 +82,7 @@ several_go_on asked.Quit several = absurd (omega (arith, several))
 several_go_on asked.StatsTko several = refl
 
 -- with one key under way at a time, keys are asked for one after another
-pub in_turn : (plan : KeyPlan) (config : Configuration) (one : Turn) (done : List Interaction) → plan.most ≡ 1 → IsTurnWithin plan config one done → IsTurn config one done
+pub in_turn : (plan : KeyPlan) (config : Configuration) (one : SessionTurn) (done : List Interaction) → plan.most ≡ 1 → IsTurnWithin plan config one done → IsSessionTurn config one done
 in_turn plan config one done only (turn.in_turn is) = is
 in_turn plan config one done only (turn.at_once request then several asks are answers) = absurd (omega (arith, only, several))
 
@@ -122,7 +122,7 @@ module _ {plan : KeyPlan} {keys : Option KeysState} {config : Configuration} whe
       let under = on.under in
       let old : AreKeysPending plan keys config under state.outbox = on.far in
       let same : old.state ≡ was = same_keys (sym old.at ∙ are) in
-      let after : Pending = record under { done = under.done ++ done } in
+      let after : PendingRequest = record under { done = under.done ++ done } in
       let far : AreKeysPending plan (Some now) config after state.outbox = record {
         state = now;
         at = refl;
@@ -145,7 +145,7 @@ module _ {plan : KeyPlan} {keys : Option KeysState} {config : Configuration} whe
       let within : was.plan ≡ plan = ap (λ (k : KeysState). k.plan) (sym same) ∙ far.within in
       let answer = keys_answer config under.request was under.done (subst (λ k. KeysSoFar config under.request k under.done) same far.so_far) complete kept in
       let text : List ℕ = reply_in was.slots in
-      let one : Turn = record { item = item.Request under.request; routed = answer.0; text = text } in
+      let one : SessionTurn = record { item = item.Request under.request; routed = answer.0; text = text } in
       let new : SessionState = replied_by text state in
       let is : IsTurnWithin plan config one (Recorded (Asked under.request) ∷ under.done) =
       turn.at_once under.request under.done far.several refl refl (subst (λ p. AnswersAtOnce p config under.request answer.0 text under.done) within answer.1) in

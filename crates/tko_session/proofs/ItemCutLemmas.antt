@@ -7,15 +7,15 @@ use Rattle.tko_text.specs.Reading.{Emits}
 use Rattle.tko_text.specs.SentRequests.{without_noreply}
 use Rattle.tko_links.specs.declared.links.Outcome.{Outcome}
 use Rattle.tko_pools.specs.Configs.{Configuration}
-use Rattle.tko_route.specs.Calls.{Call, came}
-use Rattle.tko_route.specs.Trail.{Makes}
+use Rattle.tko_route.specs.Calls.{RoutedCall, came}
+use Rattle.tko_route.specs.Trail.{MakesTrail}
 use Rattle.tko_route.specs.declared.attempt.Attempt.{Attempt}
 use Rattle.tko_reply.specs.Answering.{Extends}
 use Rattle.tko_reply.specs.Answers.{form_in}
 use Rattle.tko_reply.specs.Cuts.{IsAnswerCut, KeyLost}
 use Rattle.tko_reply.specs.Cuts as cut
 use Rattle.tko_reply.specs.Interactions.{Interaction, Made, Noted, Recorded, marks_of}
-use Rattle.tko_reply.specs.Standing.{Asking}
+use Rattle.tko_reply.specs.Standing.{SentKey}
 use Rattle.tko_reply.specs.TrailEvents.{Asked}
 use Rattle.tko_reply.specs.declared.asking.OneKey.{OneKey}
 use Rattle.tko_reply.proofs.CutLemmas.{CutAfter, NotedAs, begin_cut, gone_cut, key_cut, marks, no_marks, past_cut, sent_cut, tried_cut}
@@ -25,7 +25,7 @@ use Rattle.tko_session.specs.Acts.{came_to}
 use Rattle.tko_session.specs.Driven.{KeyDropped, OutcomeDropped, PassDropped, RequestDropped, WasDropped, WasDroppedFrom, dropped}
 use Rattle.tko_session.specs.Driven as driven
 use Rattle.tko_session.specs.SessionState.{SessionState}
-use Rattle.tko_session.specs.SoFar.{HasJoined, Pending}
+use Rattle.tko_session.specs.SoFar.{HasJoined, PendingRequest}
 use Rattle.tko_session.specs.Turns.{IsRequestCut}
 use Rattle.tko_session.specs.Turns as turn
 use Rattle.tko_session.specs.Working.{Between}
@@ -45,10 +45,10 @@ pub data IsCutAt (config : Configuration) (old : SessionState) (owes : Bool) (do
       → IsAsBefore old new → IsCutAt config old owes done new
 
 -- no attempts were made by no calls
-no_calls : (form : ℕ → Request) (calls : List Call) → Makes form calls [] → calls ≡ []
+no_calls : (form : ℕ → Request) (calls : List RoutedCall) → MakesTrail form calls [] → calls ≡ []
 no_calls form calls make = make.adds.leads
 
-no_call_after : (before : List Call) (call : Call) (calls : List Call) → before ++ call ∷ calls ≡ [] → ⊥
+no_call_after : (before : List RoutedCall) (call : RoutedCall) (calls : List RoutedCall) → before ++ call ∷ calls ≡ [] → ⊥
 no_call_after [] call calls same = cc
 no_call_after (one ∷ before) call calls same = cc
 
@@ -58,19 +58,19 @@ taken {xs} {ys} {n} more same = ap (take n) more.is ∙ take_at xs more.more n (
 
 module _ {config : Configuration} where
   -- nothing was done for the key that is to be asked for
-  joined_cut : {under : Pending} {left : List (List ℕ)} {outbox : List ℕ} → HasJoined config under left outbox → IsAnswerCut config under.request under.done
+  joined_cut : {under : PendingRequest} {left : List (List ℕ)} {outbox : List ℕ} → HasJoined config under left outbox → IsAnswerCut config under.request under.done
   joined_cut {under} {left} on =
       cut.at_keys on.routed left under.done [] on.keys on.each on.values (cut.untried refl) (sym (append-nil under.done))
 
   -- the marks of attempts were noted, if there are any
-  marked : {request : Request} {was : List Interaction} {calls : List Call} (attempts : List Attempt) → (attempts ≡ [] → IsAnswerCut config request (was ++ map Made calls))
+  marked : {request : Request} {was : List Interaction} {calls : List RoutedCall} (attempts : List Attempt) → (attempts ≡ [] → IsAnswerCut config request (was ++ map Made calls))
       → (lost : CutAfter config request was calls attempts) → NotedAs attempts lost.last → IsAnswerCut config request (was ++ (map Made calls ++ marks_of attempts))
   marked {request} {was} {calls} [] none lost noted = subst (λ ds. IsAnswerCut config request (was ++ ds)) (sym (append-nil (map Made calls))) (none refl)
   marked {request} {was} {calls} (one ∷ attempts) none lost (no_marks nobody is) = absurd (let never : ⊥ = cc in never)
   marked {request} {was} {calls} (one ∷ attempts) none lost (marks is) = subst (λ ds. IsAnswerCut config request (was ++ (map Made calls ++ ds))) is lost.is
 
   -- memory ran out where a key was begun
-  key_lost : {it : Request} {front outbox : List ℕ} {was : List Interaction} {key : List ℕ} {one : OneKey} {calls : List Call} (attempts : List Attempt)
+  key_lost : {it : Request} {front outbox : List ℕ} {was : List Interaction} {key : List ℕ} {one : OneKey} {calls : List RoutedCall} (attempts : List Attempt)
       → IsAt config it front key one was outbox → KeyLost config one.request calls attempts
       → IsAnswerCut config it (was ++ (map Made calls ++ marks_of attempts))
   key_lost {it} {was = was} {calls = calls} attempts at (cut.untried none nobody) =
@@ -81,7 +81,7 @@ module _ {config : Configuration} where
       let lost = key_cut at (cut.tried ends) in
       let form = form_in config one.request in
       marked attempts
-      (λ nobody. let make : Makes form calls [] = subst (λ trail. Makes form calls trail) nobody (ends key (keyed at)).make in
+      (λ nobody. let make : MakesTrail form calls [] = subst (λ trail. MakesTrail form calls trail) nobody (ends key (keyed at)).make in
       subst (λ cs. IsAnswerCut config it (was ++ map Made cs)) (sym (no_calls form calls make))
       (subst (IsAnswerCut config it) (sym (append-nil was)) (joined_cut (of_at at).on))) lost lost.noted
 
@@ -104,7 +104,7 @@ module _ {config : Configuration} {old : SessionState} {owes : Bool} where
       (ap (λ (s : SessionState). s.outbox) same ∙ ap (take now.begin) (sym waits)) (ap (λ (s : SessionState). s.work) same)
       (ap (λ (s : SessionState). s.requests) same) (ap (λ (s : SessionState). s.owes) same)
 
-  key_cut_at : {it : Request} {was done : List Interaction} {key : List ℕ} {one : OneKey} {now : SessionState} {calls : List Call} {attempts : List Attempt} {new : SessionState}
+  key_cut_at : {it : Request} {was done : List Interaction} {key : List ℕ} {one : OneKey} {now : SessionState} {calls : List RoutedCall} {attempts : List Attempt} {new : SessionState}
       → done ≡ Recorded (Asked it) ∷ was → IsFor old it owes now → IsAt config it old.outbox key one was now.outbox → KeyDropped config one now calls attempts new
       → IsCutAt config old owes (done ++ (map Made calls ++ marks_of attempts)) new
   key_cut_at {now = now} {calls = calls} {attempts = attempts} {new = new} are under at lost =
@@ -113,7 +113,7 @@ module _ {config : Configuration} {old : SessionState} {owes : Bool} where
       (ap (λ (s : SessionState). s.requests) lost.state) (ap (λ (s : SessionState). s.owes) lost.state)
 
   -- where the request that was recorded was begun
-  request_cut_at : {it : Request} {done : List Interaction} {now : SessionState} {calls : List Call} {attempts : List Attempt} {new : SessionState} → done ≡ Recorded (Asked it) ∷ []
+  request_cut_at : {it : Request} {done : List Interaction} {now : SessionState} {calls : List RoutedCall} {attempts : List Attempt} {new : SessionState} → done ≡ Recorded (Asked it) ∷ []
       → IsFor old it owes now → now.outbox ≡ old.outbox → RequestDropped config it now calls attempts new
       → IsCutAt config old owes (done ++ (map Made calls ++ marks_of attempts)) new
   request_cut_at {it} {done} {now} {calls} {attempts} {new} are under waits (driven.unkeyed begins nobody is) =
@@ -125,12 +125,12 @@ module _ {config : Configuration} {old : SessionState} {owes : Bool} where
       let at = is_first config now.outbox it one first in
       key_cut_at are under (subst (λ xs. IsAt config it xs at.0 one [] now.outbox) waits at.1) lost
 
-  pub asked_cut : {done : List Interaction} {now : SessionState} {new : SessionState} (calls : List Call) (attempts : List Attempt) → IsAskedAt old owes done now
+  pub asked_cut : {done : List Interaction} {now : SessionState} {new : SessionState} (calls : List RoutedCall) (attempts : List Attempt) → IsAskedAt old owes done now
       → WasDropped config now calls attempts new → IsCutAt config old owes (done ++ (map Made calls ++ marks_of attempts)) new
   asked_cut {now = now} {new = new} calls attempts asks lost =
       request_cut_at asks.are asks.under asks.waits (subst (λ w. WasDroppedFrom config w now calls attempts new) asks.at lost)
 
-  passed_cut_at : {done : List Interaction} {now : SessionState} {calls : List Call} {attempts : List Attempt} {new : SessionState} → (past : IsPastAt config old owes done now)
+  passed_cut_at : {done : List Interaction} {now : SessionState} {calls : List RoutedCall} {attempts : List Attempt} {new : SessionState} → (past : IsPastAt config old owes done now)
       → PassDropped config past.one now calls attempts new → IsCutAt config old owes (done ++ (map Made calls ++ marks_of attempts)) new
   passed_cut_at {done} {now} {calls} {attempts} {new} past (driven.unpassed joined none nobody is) =
       subst (λ cs. IsCutAt config old owes (done ++ (map Made cs ++ marks_of attempts)) new) (sym none)
@@ -142,13 +142,13 @@ module _ {config : Configuration} {old : SessionState} {owes : Bool} where
       key_cut_at past.are past.under at.1 lost
 
   -- where the session went on after a key
-  pub past_cut_at : {done : List Interaction} {now : SessionState} {new : SessionState} (calls : List Call) (attempts : List Attempt) → IsPastAt config old owes done now
+  pub past_cut_at : {done : List Interaction} {now : SessionState} {new : SessionState} (calls : List RoutedCall) (attempts : List Attempt) → IsPastAt config old owes done now
       → WasDropped config now calls attempts new → IsCutAt config old owes (done ++ (map Made calls ++ marks_of attempts)) new
   past_cut_at {now = now} {new = new} calls attempts past lost =
       passed_cut_at past (subst (λ w. WasDroppedFrom config w now calls attempts new) past.at lost)
 
   -- where what came of a send was recorded
-  pub out_cut : {done : List Interaction} {clear : ℕ} {sent : Asking} {now : SessionState} {got : Outcome} {calls : List Call} {attempts : List Attempt} {new : SessionState}
+  pub out_cut : {done : List Interaction} {clear : ℕ} {sent : SentKey} {now : SessionState} {got : Outcome} {calls : List RoutedCall} {attempts : List Attempt} {new : SessionState}
       → IsOutAt config old owes done clear sent now → OutcomeDropped config sent got now calls attempts new
       → IsCutAt config old owes (done ++ came_to sent (Ok got) ∷ (map Made calls ++ marks_of attempts)) new
   out_cut {sent = sent} {now = now} {got = got} {calls = calls} {attempts = attempts} {new = new} out gone =
@@ -159,11 +159,11 @@ module _ {config : Configuration} {old : SessionState} {owes : Bool} where
       let lost = gone_cut sending ends in
       dropped_item (map Made (call ∷ calls) ++ marks_of attempts) now.outbox new out.are out.under (at_extends sending.at)
       (marked attempts
-      (λ nobody. let make : Makes form (sending.calls ++ call ∷ calls) [] = subst (λ trail. Makes form (sending.calls ++ call ∷ calls) trail) nobody ends.make in
+      (λ nobody. let make : MakesTrail form (sending.calls ++ call ∷ calls) [] = subst (λ trail. MakesTrail form (sending.calls ++ call ∷ calls) trail) nobody ends.make in
       absurd (no_call_after sending.calls call calls (no_calls form (sending.calls ++ call ∷ calls) make))) lost lost.noted) refl gone.state
 
   -- at the send
-  pub out_stopped : {done : List Interaction} {clear : ℕ} {sent : Asking} {now new : SessionState} (was_sent : Bool)
+  pub out_stopped : {done : List Interaction} {clear : ℕ} {sent : SentKey} {now new : SessionState} (was_sent : Bool)
       → IsOutAt config old owes done clear sent now → new ≡ dropped now
       → IsCutAt config old owes (done ++ came_to sent (Err (record { sent = was_sent })) ∷ Noted sent.waiting.attempts ∷ []) new
   out_stopped {sent = sent} {now = now} {new = new} was_sent out same =
@@ -188,7 +188,7 @@ taken_lost {old = old} {now = now} taken_at same =
     })
 
 -- where the next item was read
-pub read_cut_at : {config : Configuration} {old : SessionState} {new : SessionState} (owes : Bool) (calls : List Call) (attempts : List Attempt) → old.work ≡ Between
+pub read_cut_at : {config : Configuration} {old : SessionState} {new : SessionState} (owes : Bool) (calls : List RoutedCall) (attempts : List Attempt) → old.work ≡ Between
     → WasDropped config old calls attempts new → IsCutAt config old owes (map Made calls ++ marks_of attempts) new
 read_cut_at {config} {old} {new} owes calls attempts idle lost =
     let read = subst (λ w. WasDroppedFrom config w old calls attempts new) idle lost in

@@ -10,21 +10,21 @@ use Rattle.tko_text.specs.SentRequests.{without_noreply}
 use Rattle.tko_links.specs.declared.links.Outcome.{Outcome}
 use Rattle.tko_pools.specs.Configs.{Configuration}
 use Rattle.tko_io.specs.Io.{capped}
-use Rattle.tko_route.specs.Calls.{Call, came}
+use Rattle.tko_route.specs.Calls.{RoutedCall, came}
 use Rattle.tko_route.specs.declared.attempt.Attempt.{Attempt}
 use Rattle.tko_route.specs.declared.routing.Stage.{Stage}
 use Rattle.tko_route.specs.declared.routing.Stage.TheVariants as stage
 use Rattle.tko_reply.specs.Answers.{IsKeyed}
 use Rattle.tko_reply.specs.Answers as answers
 use Rattle.tko_reply.specs.Interactions.{Interaction, Made, Recorded}
-use Rattle.tko_reply.specs.Standing.{Asking, asking, whole_of}
+use Rattle.tko_reply.specs.Standing.{SentKey, asking, whole_of}
 use Rattle.tko_reply.specs.TrailEvents.{Asked, Tried}
 use Rattle.tko_reply.specs.declared.asking.OneKey.{OneKey}
 use Rattle.tko_reply.proofs.DrivingLemmas.{key_begun, key_gone}
 use Rattle.tko_reply.proofs.JoiningLemmas.{past_next, past_over}
 use Rattle.tko_reply.proofs.StandsLemmas.{IsAnswered, IsAt, IsPast, IsSending, IsTried, Stands, is_first, keyed}
 use Rattle.tko_session.specs.Acts.{came_to}
-use Rattle.tko_session.specs.Driven.{ItemRead, KeyBegun, KeyPassed, OutcomeTaken, RequestBegun, WentOn, WentOnFrom, begun_at, finished, step_of, went}
+use Rattle.tko_session.specs.Driven.{ItemRead, KeyBegun, KeyPassed, OutcomeTaken, RequestBegun, WentOn, WentOnFrom, finished, step_of, went, with_request_read}
 use Rattle.tko_session.specs.Driven as driven
 use Rattle.tko_session.specs.SessionState.{SessionState, progress_after, progress_of}
 use Rattle.tko_session.specs.Working.{Between}
@@ -46,7 +46,7 @@ pub record IsFor (old : SessionState) (it : Request) (owes : Bool) (now : Sessio
 pub record IsTakenAt (old now : SessionState) : Type 0 where
   pub it : Request
   pub emits : Emits old.reading (item.Request it) now.reading
-  pub state : now ≡ begun_at (whole_of it) (record old { reading = now.reading })
+  pub state : now ≡ with_request_read (whole_of it) (record old { reading = now.reading })
 
 -- it was recorded
 pub record IsAskedAt (old : SessionState) (owes : Bool) (done : List Interaction) (now : SessionState) : Type 0 where
@@ -57,7 +57,7 @@ pub record IsAskedAt (old : SessionState) (owes : Bool) (done : List Interaction
   pub waits : now.outbox ≡ old.outbox
 
 -- a send is out for it
-pub record IsOutAt (config : Configuration) (old : SessionState) (owes : Bool) (done : List Interaction) (clear : ℕ) (sent : Asking) (now : SessionState) : Type 0 where
+pub record IsOutAt (config : Configuration) (old : SessionState) (owes : Bool) (done : List Interaction) (clear : ℕ) (sent : SentKey) (now : SessionState) : Type 0 where
   pub it : Request
   pub was : List Interaction
   pub are : done ≡ Recorded (Asked it) ∷ was
@@ -111,7 +111,7 @@ pub data IsOverAt (config : Configuration) (old : SessionState) (owes : Bool) (d
 abbrev pub IsItemAt : Configuration → SessionState → Bool → List Interaction → Step → SessionState → Type 0
 IsItemAt config old owes done (step.At at) now = IsOverAt config old owes done at now
 IsItemAt config old owes done step.Began now = (done ≡ []) × IsTakenAt old now
-IsItemAt config old owes done (step.Asks clear) now = (sent : Asking) × IsOutAt config old owes done clear sent now
+IsItemAt config old owes done (step.Asks clear) now = (sent : SentKey) × IsOutAt config old owes done clear sent now
 IsItemAt config old owes done (step.Tried trail) now = IsTriedAt config old owes done trail now
 
 pub record IsItem (config : Configuration) (old : SessionState) (owes : Bool) (done : List Interaction) (said : Step) (now : SessionState) : Type 0 where
@@ -171,7 +171,7 @@ module _ {config : Configuration} {old : SessionState} {owes : Bool} where
   })
 
   -- a key was asked for
-  begun_item : {it : Request} {was done : List Interaction} {key : List ℕ} {one : OneKey} {now : SessionState} {calls : List Call} {said : Step} {new : SessionState} → done ≡ Recorded (Asked it) ∷ was
+  begun_item : {it : Request} {was done : List Interaction} {key : List ℕ} {one : OneKey} {now : SessionState} {calls : List RoutedCall} {said : Step} {new : SessionState} → done ≡ Recorded (Asked it) ∷ was
       → IsFor old it owes now → IsAt config it old.outbox key one was now.outbox → KeyBegun config one now calls said new
       → IsItem config old owes (done ++ map Made calls) said new
   begun_item {key = key} {calls = calls} {new = new} are under at begun =
@@ -195,7 +195,7 @@ module _ {config : Configuration} {old : SessionState} {owes : Bool} where
   }))
 
   -- the request that was recorded was begun
-  request_item : {it : Request} {done : List Interaction} {now : SessionState} {calls : List Call} {said : Step} {new : SessionState} → done ≡ Recorded (Asked it) ∷ []
+  request_item : {it : Request} {done : List Interaction} {now : SessionState} {calls : List RoutedCall} {said : Step} {new : SessionState} → done ≡ Recorded (Asked it) ∷ []
       → IsFor old it owes now → now.outbox ≡ old.outbox → RequestBegun config it now calls said new
       → IsItem config old owes (done ++ map Made calls) said new
   request_item {it} {now = now} {calls = calls} are under waits (driven.itself text looks is told says same) =
@@ -205,12 +205,12 @@ module _ {config : Configuration} {old : SessionState} {owes : Bool} where
       let at = is_first config now.outbox it one first in
       begun_item are under (subst (λ xs. IsAt config it xs at.0 one [] now.outbox) waits at.1) begun
 
-  pub asked_went : {done : List Interaction} {now : SessionState} {said : Step} {new : SessionState} (calls : List Call) → IsAskedAt old owes done now
+  pub asked_went : {done : List Interaction} {now : SessionState} {said : Step} {new : SessionState} (calls : List RoutedCall) → IsAskedAt old owes done now
       → WentOn config now calls said new → IsItem config old owes (done ++ map Made calls) said new
   asked_went {now = now} {said = said} {new = new} calls asks on =
       request_item asks.are asks.under asks.waits (subst (λ w. WentOnFrom config w now calls said new) asks.at on)
 
-  passed_item : {done : List Interaction} {now : SessionState} {calls : List Call} {said : Step} {new : SessionState} → (past : IsPastAt config old owes done now)
+  passed_item : {done : List Interaction} {now : SessionState} {calls : List RoutedCall} {said : Step} {new : SessionState} → (past : IsPastAt config old owes done now)
       → KeyPassed config past.one now calls said new → IsItem config old owes (done ++ map Made calls) said new
   passed_item {done} {now} {calls} {said} {new} past (driven.over ends none says same) =
       subst (λ ds. IsItem config old owes ds said new) (sym (ap (λ cs. done ++ map Made cs) none ∙ append-nil done))
@@ -220,13 +220,13 @@ module _ {config : Configuration} {old : SessionState} {owes : Bool} where
       begun_item past.are past.under at.1 begun
 
   -- the session went on after a key
-  pub past_went : {done : List Interaction} {now : SessionState} {said : Step} {new : SessionState} (calls : List Call) → IsPastAt config old owes done now
+  pub past_went : {done : List Interaction} {now : SessionState} {said : Step} {new : SessionState} (calls : List RoutedCall) → IsPastAt config old owes done now
       → WentOn config now calls said new → IsItem config old owes (done ++ map Made calls) said new
   past_went {now = now} {said = said} {new = new} calls past on =
       passed_item past (subst (λ w. WentOnFrom config w now calls said new) past.at on)
 
   -- what came of a send was recorded
-  pub out_took : {done : List Interaction} {clear : ℕ} {sent : Asking} {now : SessionState} {got : Outcome} {calls : List Call} {said : Step} {new : SessionState}
+  pub out_took : {done : List Interaction} {clear : ℕ} {sent : SentKey} {now : SessionState} {got : Outcome} {calls : List RoutedCall} {said : Step} {new : SessionState}
       → IsOutAt config old owes done clear sent now → OutcomeTaken config sent got now calls said new
       → IsItem config old owes (done ++ came_to sent (Ok got) ∷ map Made calls) said new
   out_took {sent = sent} {now = now} {got = got} {calls = calls} {new = new} out taken =
@@ -269,7 +269,7 @@ item_read {config} {old} {owes} {said} {new} (driven.asked it emits says same) =
     subst (λ s. IsItem config old owes [] s new) (sym says) (record { on = (refl, record { it = it; emits = emits; state = same }) })
 
 -- the next item was read
-pub read_went : {config : Configuration} {old : SessionState} (owes : Bool) (calls : List Call) {said : Step} {new : SessionState} → old.work ≡ Between
+pub read_went : {config : Configuration} {old : SessionState} (owes : Bool) (calls : List RoutedCall) {said : Step} {new : SessionState} → old.work ≡ Between
     → WentOn config old calls said new → IsItem config old owes (map Made calls) said new
 read_went {config} {old} owes calls {said} {new} idle on =
     let read = subst (λ w. WentOnFrom config w old calls said new) idle on in

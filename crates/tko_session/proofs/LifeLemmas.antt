@@ -5,21 +5,21 @@ use Rattle.std.proofs.lemmas.List.{map-append}
 use Rattle.std.proofs.lemmas.List.Sums.{sum_by-append}
 use Rattle.tko_text.specs.declared.item.Item.{Item}
 use Rattle.tko_text.specs.declared.item.Item.TheVariants as item
-use Rattle.tko_text.specs.Reading.{Emits, EmitsEach, Gives, Reading, fed, start}
+use Rattle.tko_text.specs.Reading.{Emits, EmitsEach, Gives, Reading, fed, reading_start}
 use Rattle.tko_text.proofs.GivesLemmas.{Gives-none, Gives-push}
 use Rattle.tko_pools.specs.Configs.{Configuration}
 use Rattle.tko_io.specs.Io.{capped}
 use Rattle.tko_reply.specs.Interactions.{Interaction, Recorded}
-use Rattle.tko_reply.specs.Standing.{Asking}
+use Rattle.tko_reply.specs.Standing.{SentKey}
 use Rattle.tko_reply.specs.TrailEvents.{Asked}
 use Rattle.tko_reply.specs.declared.asking.OneKey.{OneKey}
 use Rattle.tko_keys.specs.KeysState.{KeysState}
 use Rattle.tko_keys.specs.declared.plan.KeyPlan.{KeyPlan}
 use Rattle.tko_session.specs.Acts.{phase_after}
 use Rattle.tko_session.specs.Clients.{AreTurns, HasPending, IsClientIn, IsClientOpen, Life, done_under, items_under, life, lived, no_life, waiting_in}
-use Rattle.tko_session.specs.SessionState.{GoesOn, ProgressIs, SessionState, fresh, items_of, requests_in, text_of}
-use Rattle.tko_session.specs.SoFar.{IsPendingAt, Pending}
-use Rattle.tko_session.specs.Turns.{IsTurnWithin, Turn, is_request}
+use Rattle.tko_session.specs.SessionState.{ContinuesAfterAll, ProgressIs, SessionState, fresh_session, items_of, replies_text, requests_in}
+use Rattle.tko_session.specs.SoFar.{IsPendingAt, PendingRequest}
+use Rattle.tko_session.specs.Turns.{IsTurnWithin, SessionTurn, is_request}
 use Rattle.tko_session.specs.Working.{Between, Work}
 use Rattle.tko_session.specs.Working as work
 use Rattle.tko_session.specs.declared.step.Progress.{Progress}
@@ -30,24 +30,24 @@ use Rattle.tko_session.proofs.TurnLemmas.{goes_on-none, progress-append}
 -- what a client's turns gave so far: these replies wait, this is left to be read, and after them this
 -- was done
 pub record HasTurned (plan : KeyPlan) (config : Configuration) (it : Life) (front : List ℕ) (left : Reading) (requests : ℕ) (last : List Interaction) : Type 0 where
-  pub turns : List Turn
+  pub turns : List SessionTurn
   pub turned : List Interaction
   pub each : AreTurns plan config turns turned
-  pub goes_on : GoesOn (items_of turns)
-  pub gives : Gives (fed start it.bytes) (items_of turns) left
-  pub text : it.sent ++ front ≡ text_of turns
+  pub goes_on : ContinuesAfterAll (items_of turns)
+  pub gives : Gives (fed reading_start it.bytes) (items_of turns) left
+  pub text : it.sent ++ front ≡ replies_text turns
   pub are : it.done ≡ turned ++ last
   pub counted : capped requests ≡ capped (requests_in (items_of turns))
 
 -- this request is under way
-pub record IsOn (plan : KeyPlan) (config : Configuration) (it : Life) (state : SessionState) (under : Pending) : Type 0 where
+pub record IsOn (plan : KeyPlan) (config : Configuration) (it : Life) (state : SessionState) (under : PendingRequest) : Type 0 where
   pub left : Reading
   pub base : HasTurned plan config it under.front left state.requests (Recorded (Asked under.request) ∷ under.done)
   pub emits : Emits left (item.Request under.request) state.reading
   pub begin : state.begin ≡ length under.front
 
 pub record IsOnWith (plan : KeyPlan) (keys : Option KeysState) (config : Configuration) (it : Life) (state : SessionState) (at : Work) : Type 0 where
-  pub under : Pending
+  pub under : PendingRequest
   pub on : IsOn plan config it state under
   pub far : IsPendingAt plan keys config under at state.targets state.outbox
 
@@ -68,7 +68,7 @@ each_split from (one ∷ items) last to (next, emits, rest) =
     (later.0, (next, emits, later.1), later.2)
 
 -- one more turn at the end
-turns_push : (plan : KeyPlan) (config : Configuration) (turns : List Turn) (last : Turn) (was more : List Interaction)
+turns_push : (plan : KeyPlan) (config : Configuration) (turns : List SessionTurn) (last : SessionTurn) (was more : List Interaction)
     → AreTurns plan config turns was → IsTurnWithin plan config last more → AreTurns plan config (turns ++ last ∷ []) (was ++ more)
 turns_push plan config [] last was more none is = (more, [], is, refl, ap (λ ds. ds ++ more) none ∙ sym (append-nil more))
 turns_push plan config (one ∷ turns) last was more (first, rest, turn, later, are) is =
@@ -101,13 +101,13 @@ module _ {plan : KeyPlan} {keys : Option KeysState} {config : Configuration} whe
     each = base.each;
     at = at;
     goes_on = base.goes_on;
-    gives = subst (λ items. Gives (fed start it.bytes) items state.reading) (sym (append-nil (items_of base.turns))) base.gives;
+    gives = subst (λ items. Gives (fed reading_start it.bytes) items state.reading) (sym (append-nil (items_of base.turns))) base.gives;
     text = base.text;
     are = base.are;
     requests = base.counted;
   }
 
-  idle_by : {it : Life} {state : SessionState} (s : IsClientOpen plan keys config it state) (under : Option Pending) → s.under ≡ under → state.work ≡ Between
+  idle_by : {it : Life} {state : SessionState} (s : IsClientOpen plan keys config it state) (under : Option PendingRequest) → s.under ≡ under → state.work ≡ Between
       → HasTurned plan config it state.outbox state.reading state.requests []
   idle_by {it} {state} s None e at = record {
     turns = s.turns;
@@ -115,9 +115,9 @@ module _ {plan : KeyPlan} {keys : Option KeysState} {config : Configuration} whe
     each = s.each;
     goes_on = s.goes_on;
     gives =
-        subst (λ items. Gives (fed start it.bytes) items state.reading) (append-nil (items_of s.turns))
-        (subst (λ u. Gives (fed start it.bytes) (items_of s.turns ++ items_under u) state.reading) e s.gives);
-    text = subst (λ u. it.sent ++ waiting_in u state.outbox ≡ text_of s.turns) e s.text;
+        subst (λ items. Gives (fed reading_start it.bytes) items state.reading) (append-nil (items_of s.turns))
+        (subst (λ u. Gives (fed reading_start it.bytes) (items_of s.turns ++ items_under u) state.reading) e s.gives);
+    text = subst (λ u. it.sent ++ waiting_in u state.outbox ≡ replies_text s.turns) e s.text;
     are = subst (λ u. it.done ≡ s.turned ++ done_under u) e s.are;
     counted = s.requests;
   }
@@ -129,7 +129,7 @@ module _ {plan : KeyPlan} {keys : Option KeysState} {config : Configuration} whe
   open_idle s at = idle_by s s.under refl at
 
   -- this request is under way
-  pub on_open : {it : Life} {state : SessionState} (under : Pending) → IsOn plan config it state under → IsPendingAt plan keys config under state.work state.targets state.outbox
+  pub on_open : {it : Life} {state : SessionState} (under : PendingRequest) → IsOn plan config it state under → IsPendingAt plan keys config under state.work state.targets state.outbox
       → IsClientOpen plan keys config it state
   on_open {it} {state} under on far = record {
     turns = on.base.turns;
@@ -138,21 +138,21 @@ module _ {plan : KeyPlan} {keys : Option KeysState} {config : Configuration} whe
     each = on.base.each;
     at = (on.begin, far);
     goes_on = on.base.goes_on;
-    gives = Gives-push (fed start it.bytes) (items_of on.base.turns) on.left (item.Request under.request) state.reading on.base.gives on.emits;
+    gives = Gives-push (fed reading_start it.bytes) (items_of on.base.turns) on.left (item.Request under.request) state.reading on.base.gives on.emits;
     text = on.base.text;
     are = on.base.are;
     requests = on.base.counted;
   }
 
-  on_by : {it : Life} {state : SessionState} (s : IsClientOpen plan keys config it state) (under : Option Pending) → s.under ≡ under
+  on_by : {it : Life} {state : SessionState} (s : IsClientOpen plan keys config it state) (under : Option PendingRequest) → s.under ≡ under
       → (at : Work) → state.work ≡ at → (at ≡ Between → ⊥) → IsOnWith plan keys config it state at
   on_by {it} {state} s None e at is other =
       let idle : state.work ≡ Between = subst (λ u. HasPending plan keys config u state) e s.at in
       absurd (other (sym is ∙ idle))
   on_by {it} {state} s (Some p) e at is other =
       let under : HasPending plan keys config (Some p) state = subst (λ u. HasPending plan keys config u state) e s.at in
-      let gives = subst (λ u. Gives (fed start it.bytes) (items_of s.turns ++ items_under u) state.reading) e s.gives in
-      let split = each_split (fed start it.bytes) (items_of s.turns) (item.Request p.request) state.reading gives.each in
+      let gives = subst (λ u. Gives (fed reading_start it.bytes) (items_of s.turns ++ items_under u) state.reading) e s.gives in
+      let split = each_split (fed reading_start it.bytes) (items_of s.turns) (item.Request p.request) state.reading gives.each in
       record {
         under = p;
         on = record {
@@ -163,7 +163,7 @@ module _ {plan : KeyPlan} {keys : Option KeysState} {config : Configuration} whe
             each = s.each;
             goes_on = s.goes_on;
             gives = record { each = split.1 };
-            text = subst (λ u. it.sent ++ waiting_in u state.outbox ≡ text_of s.turns) e s.text;
+            text = subst (λ u. it.sent ++ waiting_in u state.outbox ≡ replies_text s.turns) e s.text;
             are = subst (λ u. it.done ≡ s.turned ++ done_under u) e s.are;
             counted = s.requests;
           };
@@ -177,9 +177,9 @@ module _ {plan : KeyPlan} {keys : Option KeysState} {config : Configuration} whe
   open_on at s is other = on_by s s.under refl at is other
 
 -- these turns were all, and the last one ends the session or does not
-ends_so : (plan : KeyPlan) (keys : Option KeysState) (config : Configuration) (it : Life) (state : SessionState) (at : Progress) (turns : List Turn) → ProgressIs at (items_of turns) state.reading
-    → AreTurns plan config turns it.done → state.work ≡ Between → Gives (fed start it.bytes) (items_of turns) state.reading
-    → it.sent ++ state.outbox ≡ text_of turns → capped state.requests ≡ capped (requests_in (items_of turns))
+ends_so : (plan : KeyPlan) (keys : Option KeysState) (config : Configuration) (it : Life) (state : SessionState) (at : Progress) (turns : List SessionTurn) → ProgressIs at (items_of turns) state.reading
+    → AreTurns plan config turns it.done → state.work ≡ Between → Gives (fed reading_start it.bytes) (items_of turns) state.reading
+    → it.sent ++ state.outbox ≡ replies_text turns → capped state.requests ≡ capped (requests_in (items_of turns))
     → IsClientIn (phase_after (step.At at)) plan keys config it state
 ends_so plan keys config it state progress.More turns goes each between gives text counted =
     idle_open (record { turns = turns; turned = it.done; each = each; goes_on = goes; gives = gives; text = text; are = sym (append-nil it.done); counted = counted }) between
@@ -192,29 +192,29 @@ ends_so plan keys config it state progress.Quit turns ends each between gives te
 
 module _ {plan : KeyPlan} (keys : Option KeysState) {config : Configuration} where
   -- one more item was answered
-  pub end_turn : {it : Life} {front : List ℕ} {left : Reading} {requests : ℕ} {last : List Interaction} (state : SessionState) (at : Progress) (one : Turn)
+  pub end_turn : {it : Life} {front : List ℕ} {left : Reading} {requests : ℕ} {last : List Interaction} (state : SessionState) (at : Progress) (one : SessionTurn)
       → HasTurned plan config it front left requests last → IsTurnWithin plan config one last → Emits left one.item state.reading → ProgressIs at (one.item ∷ []) state.reading
       → state.outbox ≡ front ++ one.text → state.work ≡ Between → capped state.requests ≡ capped (requests + requests_in (one.item ∷ []))
       → IsClientIn (phase_after (step.At at)) plan keys config it state
   end_turn {it} {front} {left} {requests} {last} state at one base is emits progress said between counted =
       let turns = base.turns ++ one ∷ [] in
       let items : items_of turns ≡ items_of base.turns ++ one.item ∷ [] = map-append (λ turn. turn.item) base.turns (one ∷ []) in
-      let texts : text_of turns ≡ text_of base.turns ++ one.text =
-      flat_map-append (λ turn. turn.text) base.turns (one ∷ []) ∙ ap (λ xs. text_of base.turns ++ xs) (append-nil one.text) in
+      let texts : replies_text turns ≡ replies_text base.turns ++ one.text =
+      flat_map-append (λ turn. turn.text) base.turns (one ∷ []) ∙ ap (λ xs. replies_text base.turns ++ xs) (append-nil one.text) in
       let asked : requests_in (items_of turns) ≡ requests_in (items_of base.turns) + requests_in (one.item ∷ []) =
       ap requests_in items ∙ sum_by-append (λ item. cond (is_request item) 1 0) (items_of base.turns) (one.item ∷ []) in
       ends_so plan keys config it state at turns
       (subst (λ xs. ProgressIs at xs state.reading) (sym items) (progress-append at (items_of base.turns) (one.item ∷ []) state.reading base.goes_on progress))
       (subst (AreTurns plan config turns) (sym base.are) (turns_push plan config base.turns one base.turned last base.each is))
       between
-      (subst (λ xs. Gives (fed start it.bytes) xs state.reading) (sym items) (Gives-push (fed start it.bytes) (items_of base.turns) left one.item state.reading base.gives emits))
+      (subst (λ xs. Gives (fed reading_start it.bytes) xs state.reading) (sym items) (Gives-push (fed reading_start it.bytes) (items_of base.turns) left one.item state.reading base.gives emits))
       (ap (λ xs. it.sent ++ xs) said ∙ sym (append_assoc it.sent front one.text) ∙ ap (λ xs. xs ++ one.text) base.text ∙ sym texts)
       (counted_more (requests_in (items_of base.turns)) requests state.requests (requests_in (one.item ∷ [])) base.counted counted ∙ ap capped (sym asked))
 
 pub between_or_read : (one : OneKey) → work.Read one ≡ Between → ⊥
 between_or_read one same = cc
 
-pub between_or_awaits : (it : Asking) → work.Awaits it ≡ Between → ⊥
+pub between_or_awaits : (it : SentKey) → work.Awaits it ≡ Between → ⊥
 between_or_awaits it same = cc
 
 pub between_or_ended : (one : OneKey) → work.Ended one ≡ Between → ⊥
@@ -224,6 +224,6 @@ pub between_or_handed : work.HandedOver ≡ Between → ⊥
 between_or_handed same = cc
 
 -- a client that has just come
-pub begins : (plan : KeyPlan) (config : Configuration) → IsClientOpen plan None config no_life fresh
+pub begins : (plan : KeyPlan) (config : Configuration) → IsClientOpen plan None config no_life fresh_session
 begins plan config =
-    idle_open (record { turns = []; turned = []; each = refl; goes_on = goes_on-none; gives = Gives-none start; text = refl; are = refl; counted = refl }) refl
+    idle_open (record { turns = []; turned = []; each = refl; goes_on = goes_on-none; gives = Gives-none reading_start; text = refl; are = refl; counted = refl }) refl

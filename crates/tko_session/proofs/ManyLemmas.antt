@@ -16,7 +16,7 @@ use Rattle.tko_reply.specs.Interactions.{Interacts}
 use Rattle.tko_reply.specs.declared.parts.Parts.{Parts}
 use Rattle.tko_reply.proofs.InteractionLemmas.{performs}
 use Rattle.tko_keys.specs.declared.plan.KeyPlan.{KeyPlan}
-use Rattle.tko_session.specs.Clients.{Client, IsClient, Life, life_of, lived, new_client}
+use Rattle.tko_session.specs.Clients.{ClientState, IsClient, Life, life_of, lived, new_client}
 use Rattle.tko_session.specs.ManyClients.{ActsOn, AreNew, AreServed, IsNewIn, IsLifeOf, done_by, done_in}
 use Rattle.tko_session.proofs.ActLemmas.{acted, same_life}
 use Rattle.tko_session.proofs.LifeLemmas.{begins}
@@ -43,13 +43,13 @@ own_all {A} P (it ∷ acts) number all =
     ]
 
 -- a client has a life of these acts, if there is one
-abbrev Has : KeyPlan → Configuration → Option Client → List (RosterAct Client Life) → Type 0
+abbrev Has : KeyPlan → Configuration → Option ClientState → List (RosterAct ClientState Life) → Type 0
 Has plan config None acts = Unit {0}
 Has plan config (Some one) acts = IsLifeOf plan config acts one
 
-module _ {H L T C : Type 0} (ghosts : PartsGhosts H L T C) (plan : KeyPlan) (config : Configuration) (awaited : Client → List ℕ) where
+module _ {H L T C : Type 0} (ghosts : PartsGhosts H L T C) (plan : KeyPlan) (config : Configuration) (awaited : ClientState → List ℕ) where
   -- one act more
-  has_more : (before : List (RosterAct Client Life)) (it : RosterAct Client Life) (was now : Option Client) → IsNewIn plan it → Has plan config was before
+  has_more : (before : List (RosterAct ClientState Life)) (it : RosterAct ClientState Life) (was now : Option ClientState) → IsNewIn plan it → Has plan config was before
       → IsOwnAct (ActsOn ghosts config) awaited was it now → Has plan config now (before ++ it ∷ [])
   has_more before (Admitted one) was now is has (none, some) =
       let first : IsLifeOf plan config (before ++ Admitted one ∷ []) (new_client plan) =
@@ -70,7 +70,7 @@ module _ {H L T C : Type 0} (ghosts : PartsGhosts H L T C) (plan : KeyPlan) (con
       subst (λ s. Has plan config s (before ++ Acted adds ∷ [])) (sym call.to) more
   has_more before (Released one) was now is has (idle, some, none) = subst (λ s. Has plan config s (before ++ Released one ∷ [])) (sym none) tt
 
-  has_all : (before acts : List (RosterAct Client Life)) (was now : Option Client) → All (IsNewIn plan) acts → Has plan config was before
+  has_all : (before acts : List (RosterAct ClientState Life)) (was now : Option ClientState) → All (IsNewIn plan) acts → Has plan config was before
       → Lead (IsOwnAct (ActsOn ghosts config) awaited) was acts now → Has plan config now (before ++ acts)
   has_all before [] was now new has same =
       subst (λ xs. Has plan config now xs) (sym (append-nil before)) (subst (λ s. Has plan config s before) (sym same) has)
@@ -78,20 +78,20 @@ module _ {H L T C : Type 0} (ghosts : PartsGhosts H L T C) (plan : KeyPlan) (con
       let here = has_more before it was mid (All-head (IsNewIn plan) it acts new) has step in
       subst (Has plan config now) (append_assoc before (it ∷ []) acts) (has_all (before ++ it ∷ []) acts mid now (All-tail (IsNewIn plan) it acts new) here rest)
 
-  act_done : (old : Parts H L T C) (it : RosterAct Client Life) (new : Parts H L T C) → IsSharedActOf (ActsOn ghosts config) old it new
+  act_done : (old : Parts H L T C) (it : RosterAct ClientState Life) (new : Parts H L T C) → IsSharedActOf (ActsOn ghosts config) old it new
       → Gains (Interacts ghosts) old (done_by it) new
   act_done old (Admitted one) new same = record { leads = same }
   act_done old (Acted adds) new call = call.made.1
   act_done old (Released one) new same = record { leads = same }
 
   -- what was done in the acts was done to the parts
-  all_done : (old : Parts H L T C) (acts : List (Tagged (RosterAct Client Life))) (new : Parts H L T C) → Lead (IsSharedAct (ActsOn ghosts config)) old acts new
+  all_done : (old : Parts H L T C) (acts : List (Tagged (RosterAct ClientState Life))) (new : Parts H L T C) → Lead (IsSharedAct (ActsOn ghosts config)) old acts new
       → Gains (Interacts ghosts) old (done_in acts) new
   all_done old [] new same = record { leads = same }
   all_done old (it ∷ acts) new (mid, step, rest) = gains_append (act_done old it.item mid step) (all_done mid acts new rest)
 
-pub many_served : {H L T C : Type 0} (ghosts : PartsGhosts H L T C) (awaited : Client → List ℕ) (plan : KeyPlan) (old : Parts H L T C) (acts : List (Tagged (RosterAct Client Life)))
-    (new : RosterState Client (Parts H L T C)) → AreNew plan acts → Gains (IsRosterStep (ActsOn ghosts old.config) awaited) (nobody old) acts new
+pub many_served : {H L T C : Type 0} (ghosts : PartsGhosts H L T C) (awaited : ClientState → List ℕ) (plan : KeyPlan) (old : Parts H L T C) (acts : List (Tagged (RosterAct ClientState Life)))
+    (new : RosterState ClientState (Parts H L T C)) → AreNew plan acts → Gains (IsRosterStep (ActsOn ghosts old.config) awaited) (nobody old) acts new
     → AreServed ghosts plan old acts new
 many_served ghosts awaited plan old acts new fresh gains =
     let is = serves (ActsOn ghosts old.config) awaited (nobody old) acts new gains in

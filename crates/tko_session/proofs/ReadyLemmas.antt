@@ -10,19 +10,19 @@ use Rattle.tko_text.specs.declared.item.Item.TheVariants as item
 use Rattle.tko_text.specs.declared.request.Request.{Request}
 use Rattle.tko_links.specs.declared.links.Outcome.{Outcome}
 use Rattle.tko_pools.specs.Configs.{Configuration}
-use Rattle.tko_route.specs.Calls.{Call}
+use Rattle.tko_route.specs.Calls.{RoutedCall}
 use Rattle.tko_route.specs.Routing.{GoesOn}
 use Rattle.tko_route.specs.declared.attempt.Attempt.{Attempt}
 use Rattle.tko_route.specs.declared.routing.Stage.{Stage}
 use Rattle.tko_route.specs.declared.routing.Stage.TheVariants as stage
 use Rattle.tko_reply.specs.Answering.{Extends}
-use Rattle.tko_reply.specs.Asking.{Begins, BeginsAt, Continues, IsFirst, IsJoined}
+use Rattle.tko_reply.specs.Asking.{BeginsAnswer, BeginsAt, ContinuesKeys, IsFirst, IsJoined}
 use Rattle.tko_reply.specs.Asking as asked
 use Rattle.tko_reply.specs.Cuts.{IsBeginCut}
-use Rattle.tko_reply.specs.Standing.{Asking, whole_of}
+use Rattle.tko_reply.specs.Standing.{SentKey, whole_of}
 use Rattle.tko_reply.specs.declared.asking.OneKey.{OneKey}
 use Rattle.tko_reply.proofs.HeldLemmas.{AwaitsAt, first_held, goes_awaits, goes_held, next_held}
-use Rattle.tko_session.specs.Driven.{IsOut, IsRead, IsReady, IsReadyFor, ItemDropped, ItemRead, KeyBegun, KeyDropped, KeyPassed, OutcomeTaken, RequestBegun, WasDropped, WasDroppedFrom, WentOn, WentOnFrom, begun_at, dropped, finished, went}
+use Rattle.tko_session.specs.Driven.{IsReadyFor, IsRequestRead, IsSendOut, IsSessionReady, ItemDropped, ItemRead, KeyBegun, KeyDropped, KeyPassed, OutcomeTaken, RequestBegun, WasDropped, WasDroppedFrom, WentOn, WentOnFrom, dropped, finished, went, with_request_read}
 use Rattle.tko_session.specs.Driven as driven
 use Rattle.tko_session.specs.SessionState.{SessionState, progress_after, progress_of}
 use Rattle.tko_session.specs.declared.step.Progress.TheVariants as progress
@@ -33,7 +33,7 @@ use Rattle.tko_session.specs.Working as work
 use Rattle.tko_session.proofs.ItemCutLemmas.{taken}
 
 ready_at : (config : Configuration) (state : SessionState) (at : Stage) (one : OneKey) → BeginsAt state.begin one.share state.outbox
-    → AwaitsAt config state.targets at one → IsReady config (went at one state)
+    → AwaitsAt config state.targets at one → IsSessionReady config (went at one state)
 ready_at config state (stage.Away clear waiting) one held awaits = record { begins = held; sent = awaits }
 ready_at config state (stage.Done trail) one held awaits = held
 
@@ -41,19 +41,19 @@ true_or_false : true ≡ false → ⊥
 true_or_false e = cc
 
 -- a request that begins with a key
-pub begins_first : {config : Configuration} {request : Request} {outbox outbox' : List ℕ} {calls : List Call} {one : OneKey} {keyed : Bool} → keyed ≡ true
-    → Begins config request outbox calls keyed one outbox' → IsFirst request (length outbox) one × (outbox' ≡ outbox) × (calls ≡ [])
+pub begins_first : {config : Configuration} {request : Request} {outbox outbox' : List ℕ} {calls : List RoutedCall} {one : OneKey} {keyed : Bool} → keyed ≡ true
+    → BeginsAnswer config request outbox calls keyed one outbox' → IsFirst request (length outbox) one × (outbox' ≡ outbox) × (calls ≡ [])
 begins_first on (asked.itself text looks over is are same) = absurd (true_or_false (sym on ∙ over))
 begins_first on (asked.by_key on' first none same) = (first, same, none)
 
 -- a key that goes on to the next
-pub next_outbox : {one other : OneKey} {outbox outbox' : List ℕ} → Continues one outbox true other outbox' → outbox' ≡ outbox
+pub next_outbox : {one other : OneKey} {outbox outbox' : List ℕ} → ContinuesKeys one outbox true other outbox' → outbox' ≡ outbox
 next_outbox (asked.complete silent kind over same) = absurd (true_or_false over)
 next_outbox (asked.last begin kind over same) = absurd (true_or_false over)
 next_outbox (asked.next begin key left kind on alike then same) = same
 
 -- whose reply is complete
-over_same : {one other : OneKey} {outbox outbox' : List ℕ} → Continues one outbox false other outbox' → Continues one outbox false one outbox'
+over_same : {one other : OneKey} {outbox outbox' : List ℕ} → ContinuesKeys one outbox false other outbox' → ContinuesKeys one outbox false one outbox'
 over_same (asked.complete silent kind over same) = asked.complete silent kind over same
 over_same (asked.last begin kind over same) = asked.last begin kind over same
 over_same (asked.next begin key left kind on alike then same) = absurd (true_or_false (sym on))
@@ -70,33 +70,33 @@ fault_read {old} {read} {new} fault told others is says =
 
 -- a request was read and kept
 pub request_read : {old read new : SessionState} {said : Step} (it : Request) → Emits old.reading (item.Request it) read.reading
-    → read ≡ record old { reading = read.reading } → new ≡ begun_at (whole_of it) read → said ≡ step.Began → ItemRead old said new
+    → read ≡ record old { reading = read.reading } → new ≡ with_request_read (whole_of it) read → said ≡ step.Began → ItemRead old said new
 request_read {old} {read} {new} it told others is says =
     let to : new.reading ≡ read.reading = ap (λ (s : SessionState). s.reading) is in
     driven.asked it (subst (λ r. Emits old.reading (item.Request it) r) (sym to) told) says
-    (is ∙ ap (begun_at (whole_of it)) others ∙ ap (λ r. begun_at (whole_of it) (record old { reading = r })) (sym to))
+    (is ∙ ap (with_request_read (whole_of it)) others ∙ ap (λ r. with_request_read (whole_of it) (record old { reading = r })) (sym to))
 
 module _ (config : Configuration) where
-  key_ready : {one : OneKey} {old new : SessionState} {calls : List Call} {said : Step} → BeginsAt old.begin one.share old.outbox
-      → KeyBegun config one old calls said new → IsReady config new
+  key_ready : {one : OneKey} {old new : SessionState} {calls : List RoutedCall} {said : Step} → BeginsAt old.begin one.share old.outbox
+      → KeyBegun config one old calls said new → IsSessionReady config new
   key_ready {one} {old} {new} held key =
       let state : SessionState = record old { outbox = new.outbox; targets = new.targets } in
-      subst (IsReady config) (sym key.state)
+      subst (IsSessionReady config) (sym key.state)
       (ready_at config state key.at key.key (goes_held config one (without_noreply one.request) old.begin held key.goes)
       (goes_awaits one config (without_noreply one.request) key.within key.goes))
 
-  pub item_ready : {old new : SessionState} {said : Step} → old.work ≡ work.Between → ItemRead old said new → IsReady config new
-  item_ready {old} between (driven.none needs says is) = subst (IsReady config) (sym is) (subst (IsReadyFor config old) (sym between) tt)
+  pub item_ready : {old new : SessionState} {said : Step} → old.work ≡ work.Between → ItemRead old said new → IsSessionReady config new
+  item_ready {old} between (driven.none needs says is) = subst (IsSessionReady config) (sym is) (subst (IsReadyFor config old) (sym between) tt)
   item_ready {old} {new} between (driven.refused fault emits says is) =
       let state : SessionState = record old { reading = new.reading; outbox = new.outbox } in
       subst (IsReadyFor config new) (sym (ap (λ (s : SessionState). s.work) is ∙ between)) tt
-  item_ready between (driven.asked it emits says is) = subst (IsReady config) (sym is) (record { whole = refl; begins = refl })
+  item_ready between (driven.asked it emits says is) = subst (IsSessionReady config) (sym is) (record { whole = refl; begins = refl })
 
   went_between : {old new : SessionState} {said : Step} → old.work ≡ work.Between → ItemRead old said new → WentOn config old [] said new
   went_between {old} {new} {said} is read = subst (λ w. WentOnFrom config w old [] said new) (sym is) (refl, read)
 
-  went_ready_from : (old new : SessionState) (calls : List Call) (said : Step) (at : Work) → old.work ≡ at → IsReadyFor config old at
-      → WentOnFrom config at old calls said new → IsReady config new
+  went_ready_from : (old new : SessionState) (calls : List RoutedCall) (said : Step) (at : Work) → old.work ≡ at → IsReadyFor config old at
+      → WentOnFrom config at old calls said new → IsSessionReady config new
   went_ready_from old new calls said work.Between is ready (none, read) = item_ready is read
   went_ready_from old new calls said (work.Read one) is ready (driven.itself text looks itself are says state) =
       subst (IsReadyFor config new) (sym (ap (λ (s : SessionState). s.work) state)) tt
@@ -110,30 +110,30 @@ module _ (config : Configuration) where
   went_ready_from old new calls said work.HandedOver is ready went = absurd went
 
   -- the session is ready for the next call
-  pub went_ready : (old new : SessionState) (calls : List Call) (said : Step) → IsReady config old → WentOn config old calls said new → IsReady config new
+  pub went_ready : (old new : SessionState) (calls : List RoutedCall) (said : Step) → IsSessionReady config old → WentOn config old calls said new → IsSessionReady config new
   went_ready old new calls said ready went = went_ready_from old new calls said old.work refl ready went
 
-  pub outcome_ready : {outcome : Outcome} {it : Asking} {old new : SessionState} {calls : List Call} {said : Step} → IsOut config old it
-      → OutcomeTaken config it outcome old calls said new → IsReady config new
+  pub outcome_ready : {outcome : Outcome} {it : SentKey} {old new : SessionState} {calls : List RoutedCall} {said : Step} → IsSendOut config old it
+      → OutcomeTaken config it outcome old calls said new → IsSessionReady config new
   outcome_ready {outcome} {it} {old} {new} out taken =
       let sent = out.sent in
       let goes = taken.goes sent.original sent.calls sent.form sent.found in
       let state : SessionState = record old { outbox = new.outbox } in
-      subst (IsReady config) (sym taken.state)
+      subst (IsSessionReady config) (sym taken.state)
       (ready_at config state taken.at taken.key (goes_held config it.key sent.original old.begin out.begins goes)
       (goes_awaits it.key config sent.original sent.out.within goes))
 
   -- a request was begun by its first key
-  pub request_keyed : {one other : OneKey} {outbox : List ℕ} {old new : SessionState} {calls more : List Call} {said : Step} {keyed : Bool}
-      → old.work ≡ work.Read one → keyed ≡ true → Begins config one.request old.outbox calls keyed other outbox
+  pub request_keyed : {one other : OneKey} {outbox : List ℕ} {old new : SessionState} {calls more : List RoutedCall} {said : Step} {keyed : Bool}
+      → old.work ≡ work.Read one → keyed ≡ true → BeginsAnswer config one.request old.outbox calls keyed other outbox
       → (outbox ≡ old.outbox → KeyBegun config other old more said new) → WentOn config old (calls ++ more) said new
   request_keyed {one} {other} {old = old} {new = new} {calls = calls} {more = more} {said = said} is on begins key =
       let first = begins_first on begins in
       subst (λ cs. WentOn config old (cs ++ more) said new) (sym first.2)
       (subst (λ w. WentOnFrom config w old more said new) (sym is) (driven.by_key other first.0 (key first.1)))
 
-  pub request_lost : {one other : OneKey} {outbox : List ℕ} {old new : SessionState} {calls more : List Call} {attempts : List Attempt} {keyed : Bool}
-      → old.work ≡ work.Read one → keyed ≡ true → Begins config one.request old.outbox calls keyed other outbox
+  pub request_lost : {one other : OneKey} {outbox : List ℕ} {old new : SessionState} {calls more : List RoutedCall} {attempts : List Attempt} {keyed : Bool}
+      → old.work ≡ work.Read one → keyed ≡ true → BeginsAnswer config one.request old.outbox calls keyed other outbox
       → (outbox ≡ old.outbox → KeyDropped config other old more attempts new) → WasDropped config old (calls ++ more) attempts new
   request_lost {one} {other} {old = old} {new = new} {calls = calls} {more = more} {attempts = attempts} is on begins key =
       let first = begins_first on begins in
@@ -141,8 +141,8 @@ module _ (config : Configuration) where
       (subst (λ w. WasDroppedFrom config w old more attempts new) (sym is) (driven.at_key other first.0 (key first.1)))
 
   -- the proxy answered it itself
-  pub request_itself : {one other : OneKey} {at : Work} {outbox : List ℕ} {old mid new : SessionState} {calls : List Call} {said : Step} {keyed : Bool}
-      → old.work ≡ work.Read one → keyed ≡ false → Begins config one.request old.outbox calls keyed other outbox
+  pub request_itself : {one other : OneKey} {at : Work} {outbox : List ℕ} {old mid new : SessionState} {calls : List RoutedCall} {said : Step} {keyed : Bool}
+      → old.work ≡ work.Read one → keyed ≡ false → BeginsAnswer config one.request old.outbox calls keyed other outbox
       → mid ≡ record old { outbox = outbox; work = at } → said ≡ step.At (progress_of one.request) → new ≡ finished mid → WentOn config old calls said new
   request_itself is over (asked.by_key on first none same) moved says end = absurd (true_or_false (sym on ∙ over))
   request_itself {one} {at = at} {old = old} {new = new} {calls = calls} {said = said} is over (asked.itself text looks over' itself are same) moved says end =
@@ -150,7 +150,7 @@ module _ (config : Configuration) where
       (driven.itself text looks itself are says (end ∙ ap finished moved ∙ ap (λ xs. finished (record old { outbox = xs; work = at })) same))
 
   -- memory ran out before its first key
-  pub request_unkeyed : {one : OneKey} {outbox : List ℕ} {old new : SessionState} {calls : List Call} {attempts : List Attempt}
+  pub request_unkeyed : {one : OneKey} {outbox : List ℕ} {old new : SessionState} {calls : List RoutedCall} {attempts : List Attempt}
       → old.work ≡ work.Read one → old.begin ≡ length old.outbox → Extends old.outbox outbox → IsBeginCut config one.request calls → attempts ≡ []
       → new ≡ record (dropped old) { outbox = take old.begin outbox } → WasDropped config old calls attempts new
   request_unkeyed {one} {outbox} {old} {new} {calls} {attempts} is begins more cut none end =
@@ -159,34 +159,34 @@ module _ (config : Configuration) where
       (driven.unkeyed cut none (end ∙ ap (λ xs. record (dropped old) { outbox = xs }) (taken more begins ∙ sym (taken nothing begins))))
 
   -- after a key the next was asked for
-  pub key_passed : {one other : OneKey} {outbox : List ℕ} {old new : SessionState} {calls : List Call} {said : Step} {keyed : Bool}
-      → old.work ≡ work.Ended one → keyed ≡ true → Continues one old.outbox keyed other outbox
+  pub key_passed : {one other : OneKey} {outbox : List ℕ} {old new : SessionState} {calls : List RoutedCall} {said : Step} {keyed : Bool}
+      → old.work ≡ work.Ended one → keyed ≡ true → ContinuesKeys one old.outbox keyed other outbox
       → (outbox ≡ old.outbox → KeyBegun config other old calls said new) → WentOn config old calls said new
   key_passed {one} {other} {outbox} {old} {new} {calls} {said} is on goes key =
-      let goes' = subst (λ b. Continues one old.outbox b other outbox) on goes in
+      let goes' = subst (λ b. ContinuesKeys one old.outbox b other outbox) on goes in
       let waits = next_outbox goes' in
       subst (λ w. WentOnFrom config w old calls said new) (sym is)
-      (driven.next other (subst (λ xs. Continues one old.outbox true other xs) waits goes') (key waits))
+      (driven.next other (subst (λ xs. ContinuesKeys one old.outbox true other xs) waits goes') (key waits))
 
-  pub pass_lost : {one other : OneKey} {outbox : List ℕ} {old new : SessionState} {calls : List Call} {attempts : List Attempt} {keyed : Bool}
-      → old.work ≡ work.Ended one → keyed ≡ true → Continues one old.outbox keyed other outbox
+  pub pass_lost : {one other : OneKey} {outbox : List ℕ} {old new : SessionState} {calls : List RoutedCall} {attempts : List Attempt} {keyed : Bool}
+      → old.work ≡ work.Ended one → keyed ≡ true → ContinuesKeys one old.outbox keyed other outbox
       → (outbox ≡ old.outbox → KeyDropped config other old calls attempts new) → WasDropped config old calls attempts new
   pass_lost {one} {other} {outbox} {old} {new} {calls} {attempts} is on goes key =
-      let goes' = subst (λ b. Continues one old.outbox b other outbox) on goes in
+      let goes' = subst (λ b. ContinuesKeys one old.outbox b other outbox) on goes in
       let waits = next_outbox goes' in
       subst (λ w. WasDroppedFrom config w old calls attempts new) (sym is)
-      (driven.at_next other (subst (λ xs. Continues one old.outbox true other xs) waits goes') (key waits))
+      (driven.at_next other (subst (λ xs. ContinuesKeys one old.outbox true other xs) waits goes') (key waits))
 
   -- or the reply is complete
   pub key_over : {one other : OneKey} {at : Work} {outbox : List ℕ} {old mid new : SessionState} {said : Step} {keyed : Bool}
-      → old.work ≡ work.Ended one → keyed ≡ false → Continues one old.outbox keyed other outbox
+      → old.work ≡ work.Ended one → keyed ≡ false → ContinuesKeys one old.outbox keyed other outbox
       → mid ≡ record old { outbox = outbox; work = at } → said ≡ step.At progress.More → new ≡ finished mid → WentOn config old [] said new
   key_over {one} {other} {at} {outbox} {old} {mid} {new} {said} is over goes same says end =
-      let goes' = over_same (subst (λ b. Continues one old.outbox b other outbox) over goes) in
+      let goes' = over_same (subst (λ b. ContinuesKeys one old.outbox b other outbox) over goes) in
       let there : new ≡ finished (record old { outbox = outbox }) = end ∙ ap finished same in
       let waits : new.outbox ≡ outbox = ap (λ (s : SessionState). s.outbox) there in
       subst (λ w. WentOnFrom config w old [] said new) (sym is)
-      (driven.over (subst (λ xs. Continues one old.outbox false one xs) (sym waits) goes') refl says
+      (driven.over (subst (λ xs. ContinuesKeys one old.outbox false one xs) (sym waits) goes') refl says
       (there ∙ ap (λ xs. finished (record old { outbox = xs })) (sym waits)))
 
   -- memory ran out before the next key

@@ -9,7 +9,7 @@ use Rattle.tko_reply.specs.Ghosts.{PartsGhosts}
 use Rattle.std.specs.Prelude.{MatchBool}
 use Rattle.tko_text.specs.declared.reader.FeedFault.{FeedFault}
 use Rattle.tko_text.specs.declared.reader.FeedFault.TheVariants as feed
-use Rattle.tko_text.specs.Reading.{Gives, Never, Reading, fed, start}
+use Rattle.tko_text.specs.Reading.{Gives, Never, Reading, fed, reading_start}
 use Rattle.tko_text.proofs.CuttingLemmas.{fed-fed}
 use Rattle.tko_text.proofs.GivesLemmas.{Gives-append, Gives-fed, Gives-none}
 use Rattle.tko_text.proofs.ReadingLemmas.{NeedsMore-failed}
@@ -24,11 +24,11 @@ use Rattle.tko_bytes.specs.declared.memory.NoMemory.{NoMemory}
 use Rattle.tko_session.specs.Effects.{effects_of}
 use Rattle.tko_session.specs.AnswerEnds.{AnsweringEnds, IsRun, NoneRun}
 use Rattle.tko_session.specs.Ends.{AllDelivered, DeliveryStops, PieceStops, SessionStops, ShortOfMemory, WriterFailed}
-use Rattle.tko_session.specs.Events.{Effects, Event, IdleRound, NoneAtWork, NoneShort, Rounded, idle_rounds, turns_of}
+use Rattle.tko_session.specs.Events.{Effects, IdleRound, NoneAtWork, NoneShort, Rounded, SessionEvent, idle_rounds, turns_of}
 use Rattle.tko_session.specs.Batches.{EndInBatch}
-use Rattle.tko_session.specs.Faults.{fault_of}
-use Rattle.tko_session.specs.SessionState.{SessionState, Snapshot, Answered, AnsweredPart, BeginBelowBound, GoesOn, InSession, IsBehind, ProgressIs, fed_state, fresh, items_of, snapshot, text_of, cut_short, no_more, stop_point}
-use Rattle.tko_session.specs.Served.{Context, Delivered, DeliveredPart, Delivery, EndsAt, Served, ServedSoFar, StoppedByLine, StoppedByMemory, StoppedByRead, StoppedByWrite, StoppedEarly, Transcript, after_cut, at_end_of_input, at_once, at_quit, context, delivering, delivery, serve_state, serving}
+use Rattle.tko_session.specs.Faults.{session_fault_of}
+use Rattle.tko_session.specs.SessionState.{SessionState, Snapshot, HasAnswered, AnsweredPart, BeginBelowBound, ContinuesAfterAll, InSession, IsBehind, ProgressIs, fed_state, fresh_session, items_of, snapshot, replies_text, cut_short, no_more, stop_point}
+use Rattle.tko_session.specs.Served.{Context, Delivered, DeliveredPart, DeliveryState, EndsAt, Served, ServedSoFar, StoppedByLine, StoppedByMemory, StoppedByRead, StoppedByWrite, StoppedEarly, Transcript, after_cut, at_end_of_input, at_once, at_quit, context, delivering, delivery, serve_state, serving}
 use Rattle.tko_session.proofs.EventLemmas.{idles-append, order-append, short-after, short-append, short-last, short-none, work-short}
 use Rattle.tko_session.proofs.TextFacts.{open_start, reading_goes_on}
 use Rattle.tko_session.proofs.TurnLemmas.{counts_append, counts_idle, counts_none, events_go_on, events_in_session, events_progress, goes_on-none, in_session, in_session_of, items-append, items-paid, paid, part_none, text-append, text-paid, turned_append, turned_idle, turned_none, turned_paid}
@@ -45,20 +45,20 @@ false_is_true same = cc
 
 module _ {W : Type 0} {does : Effects W} where
   -- no round is owed, so that no request was cut short
-  ends_settled : {events : List Event} {left : Reading} {reached : W} {new : Snapshot W} → NoneShort events
+  ends_settled : {events : List SessionEvent} {left : Reading} {reached : W} {new : Snapshot W} → NoneShort events
       → IsBehind does.cut (stop_point events left reached) new → new.state.owes ≡ false → EndsAt does (stop_point events left reached) new.parts
   ends_settled {events} calm (no_more same none) settled = at_once (short-none events calm) same
   ends_settled calm (cut_short it to goes emits is owed) settled = absurd (false_is_true (sym settled ∙ owed))
 
   -- a session that ended after events ended after all of them
-  ends_after : {left : Reading} {reached after : W} (events more : List Event) → NoneShort events → GoesOn (items_of (turns_of events))
+  ends_after : {left : Reading} {reached after : W} (events more : List SessionEvent) → NoneShort events → ContinuesAfterAll (items_of (turns_of events))
       → EndsAt does (stop_point more left reached) after → EndsAt does (stop_point (events ++ more) left reached) after
   ends_after events more calm goes (at_once short same) = at_once (short-after events more calm short) same
   ends_after events more calm goes (after_cut it to mid visits short going emits is round) =
       after_cut it to mid visits (short-append events more calm short) (events_go_on events more goes going) emits is round
 
 -- events were answered from an empty outbox, and then a round was run at most
-one_batch : (events last : List Event) (outbox written : List ℕ) → outbox ≡ [] → BeginBelowBound (length outbox) (turns_of events)
+one_batch : (events last : List SessionEvent) (outbox written : List ℕ) → outbox ≡ [] → BeginBelowBound (length outbox) (turns_of events)
     → NoneAtWork events → turns_of last ≡ [] → length last ≤ 1 → EndInBatch (events ++ last) written
 one_batch events last outbox written empty begin none round one = record {
   before = [];
@@ -71,20 +71,20 @@ one_batch events last outbox written empty begin none round one = record {
 }
 
 -- all was written, and then a round was run at most
-no_batch : (events last : List Event) → turns_of last ≡ [] → length last ≤ 1 → EndInBatch (events ++ last) (text_of (turns_of events))
+no_batch : (events last : List SessionEvent) → turns_of last ≡ [] → length last ≤ 1 → EndInBatch (events ++ last) (replies_text (turns_of events))
 no_batch events last round one = record {
   before = events;
   batch = [];
   last = last;
   parts = refl;
-  front = record { more = []; is = sym (append-nil (text_of (turns_of events))) };
+  front = record { more = []; is = sym (append-nil (replies_text (turns_of events))) };
   is = record { begin = tt; at_once = refl };
   round = record { one = one; none = round };
 }
 
 -- the last batch of more events is that of all
-batch_after : (events more : List Event) (written : List ℕ) → EndInBatch more written
-    → EndInBatch (events ++ more) (text_of (turns_of events) ++ written)
+batch_after : (events more : List SessionEvent) (written : List ℕ) → EndInBatch more written
+    → EndInBatch (events ++ more) (replies_text (turns_of events) ++ written)
 batch_after events more written back = record {
   before = events ++ back.before;
   batch = back.batch;
@@ -93,8 +93,8 @@ batch_after events more written back = record {
   front = record {
     more = back.front.more;
     is =
-        ap (λ xs. text_of (turns_of events) ++ xs) back.front.is
-        ∙ sym (append_assoc (text_of (turns_of events)) (text_of (turns_of back.before)) back.front.more)
+        ap (λ xs. replies_text (turns_of events) ++ xs) back.front.is
+        ∙ sym (append_assoc (replies_text (turns_of events)) (replies_text (turns_of back.before)) back.front.more)
         ∙ ap (λ xs. xs ++ back.front.more) (sym (text-append events back.before));
   };
   is = back.is;
@@ -103,7 +103,7 @@ batch_after events more written back = record {
 
 module _ {O W : Type 0} {outlet : OutletGhosts O} {does : Effects W} where
   -- items were answered, and the front of their replies was written
-  part_delivered : {old : Delivery O W} {mid : Snapshot W} {new : Delivery O W} (front unwritten : List ℕ)
+  part_delivered : {old : DeliveryState O W} {mid : Snapshot W} {new : DeliveryState O W} (front unwritten : List ℕ)
       → (part : AnsweredPart does old.session mid)
       → EndsAt does (stop_point part.events part.left part.reached) new.session.parts
       → old.session.state.outbox ≡ [] → mid.state.outbox ≡ front ++ unwritten
@@ -122,7 +122,7 @@ module _ {O W : Type 0} {outlet : OutletGhosts O} {does : Effects W} where
     in_session = part.in_session;
     front = front;
     unwritten = unwritten;
-    text = sym (part.outbox ∙ ap (λ xs. xs ++ text_of (turns_of part.events)) empty) ∙ split;
+    text = sym (part.outbox ∙ ap (λ xs. xs ++ replies_text (turns_of part.events)) empty) ∙ split;
     output = wrote;
     batch =
         subst (λ events. EndInBatch events front) (append-nil part.events)
@@ -160,7 +160,7 @@ module _ {O W : Type 0} {outlet : OutletGhosts O} {does : Effects W} where
     calm = refl;
   }
 
-  abbrev delivered_append : Joins outlet.takes → {progress : Progress} {old mid new : Delivery O W}
+  abbrev delivered_append : Joins outlet.takes → {progress : Progress} {old mid new : DeliveryState O W}
       → Delivered (delivering outlet does) More old mid → Delivered (delivering outlet does) progress mid new
       → Delivered (delivering outlet does) progress old new
   delivered_append joins {progress} {old} {mid} {new} front back = record {
@@ -175,7 +175,7 @@ module _ {O W : Type 0} {outlet : OutletGhosts O} {does : Effects W} where
   }
 
   -- events stay the same events when more bytes come behind them
-  abbrev delivered_fed : {old new : Delivery O W} → (piece : List ℕ) → Delivered (delivering outlet does) NeedsInput old new
+  abbrev delivered_fed : {old new : DeliveryState O W} → (piece : List ℕ) → Delivered (delivering outlet does) NeedsInput old new
       → Delivered (delivering outlet does) More (delivery (fed_state old.session.state piece) old.session.parts old.writer old.written)
       (delivery (fed_state new.session.state piece) new.session.parts new.writer new.written)
   delivered_fed piece delivered = record {
@@ -194,7 +194,7 @@ module _ {O W : Type 0} {outlet : OutletGhosts O} {does : Effects W} where
     progress_is = delivered.progress_is.0;
   }
 
-  pub part_append : Joins outlet.takes → {idles idles' : ℕ} {old mid new : Delivery O W}
+  pub part_append : Joins outlet.takes → {idles idles' : ℕ} {old mid new : DeliveryState O W}
       → (first : Delivered (delivering outlet does) More old mid) → idle_rounds first.events ≡ idles
       → DeliveredPart (delivering outlet does) idles' mid new
       → DeliveredPart (delivering outlet does) (idles + idles') old new
@@ -211,23 +211,23 @@ module _ {O W : Type 0} {outlet : OutletGhosts O} {does : Effects W} where
     counts = counts_append first.turned.counts back.counts;
     order = order-append old.session.state.owes mid.session.state.owes false first.events back.events first.turned.order back.order;
     in_session = events_in_session first.events back.events first.progress_is back.in_session;
-    front = text_of (turns_of first.events) ++ back.front;
+    front = replies_text (turns_of first.events) ++ back.front;
     unwritten = back.unwritten;
     text =
-        text-append first.events back.events ∙ ap (λ text. text_of (turns_of first.events) ++ text) back.text
-        ∙ sym (append_assoc (text_of (turns_of first.events)) back.front back.unwritten);
+        text-append first.events back.events ∙ ap (λ text. replies_text (turns_of first.events) ++ text) back.text
+        ∙ sym (append_assoc (replies_text (turns_of first.events)) back.front back.unwritten);
     output = writes_append joins first.output back.output;
     batch = batch_after first.events back.events back.front back.batch;
   }
 
   -- memory ran out where the reader took a piece, and nothing of it was answered
-  pub not_taken : (cause : FeedFault) {old new : Delivery O W} → cause ≢ feed.Failed
-      → ShortOfMemory (delivering outlet does) old new → PieceStops (delivering outlet does) old (fault_of cause) new
+  pub not_taken : (cause : FeedFault) {old new : DeliveryState O W} → cause ≢ feed.Failed
+      → ShortOfMemory (delivering outlet does) old new → PieceStops (delivering outlet does) old (session_fault_of cause) new
   not_taken feed.Failed other short = absurd (other refl)
   not_taken feed.Memory other short = short
 
   -- some items of a piece were delivered, and more of them
-  pub all_append : Joins outlet.takes → {progress : Progress} {old mid new : Delivery O W}
+  pub all_append : Joins outlet.takes → {progress : Progress} {old mid new : DeliveryState O W}
       → AllDelivered (delivering outlet does) More old mid → AllDelivered (delivering outlet does) progress mid new
       → AllDelivered (delivering outlet does) progress old new
   all_append joins front back = record {
@@ -240,7 +240,7 @@ module _ {O W : Type 0} {outlet : OutletGhosts O} {does : Effects W} where
   }
 
   -- some items of a piece were delivered, and then the session stopped
-  pub piece_stopped : Joins outlet.takes → (cause : SessionFault) {old mid : Delivery O W} (new : Delivery O W)
+  pub piece_stopped : Joins outlet.takes → (cause : SessionFault) {old mid : DeliveryState O W} (new : DeliveryState O W)
       → AllDelivered (delivering outlet does) More old mid → DeliveryStops (delivering outlet does) mid cause new
       → PieceStops (delivering outlet does) old cause new
   unfolding part_append
@@ -257,14 +257,14 @@ module _ {O W : Type 0} {outlet : OutletGhosts O} {does : Effects W} where
 
 module _ {I O W : Type 0} {inlet : InletGhosts I} {outlet : OutletGhosts O} {does : Effects W} where
   pub so_far_none : (reader : I) (writer : O) (parts : W) → inlet.gives reader [] reader → outlet.takes writer [] writer
-      → ServedSoFar (serving inlet outlet does) NeedsInput (context reader writer parts) (serve_state reader (delivery fresh parts writer 0))
+      → ServedSoFar (serving inlet outlet does) NeedsInput (context reader writer parts) (serve_state reader (delivery fresh_session parts writer 0))
   so_far_none reader writer parts nothing_in nothing_out = record {
     bytes = [];
     input = nothing_in;
     idles = sym (add-zero (inlet.idles reader));
     delivered = record {
       events = [];
-      turned = turned_none (snapshot fresh parts);
+      turned = turned_none (snapshot fresh_session parts);
       output = writes_none writer 0 nothing_out;
       outbox = refl;
       owes = refl;
@@ -274,7 +274,7 @@ module _ {I O W : Type 0} {inlet : InletGhosts I} {outlet : OutletGhosts O} {doe
 
   -- a piece was read, and what it completed was answered
   pub so_far_more : Joins inlet.gives → Joins outlet.takes
-      → {progress : Progress} {old : Context I O W} {reader reader' : I} {mid new : Delivery O W} → (piece : List ℕ)
+      → {progress : Progress} {old : Context I O W} {reader reader' : I} {mid new : DeliveryState O W} → (piece : List ℕ)
       → ServedSoFar (serving inlet outlet does) NeedsInput old (serve_state reader mid) → inlet.gives reader piece reader'
       → inlet.idles reader' ≡ inlet.idles reader
       → AllDelivered (delivering outlet does) progress (delivery (fed_state mid.session.state piece) mid.session.parts mid.writer mid.written) new
@@ -289,7 +289,7 @@ module _ {I O W : Type 0} {inlet : InletGhosts I} {outlet : OutletGhosts O} {doe
           events = events;
           turned = record {
             gives =
-                subst (λ from. Gives from (items_of (turns_of events)) new.session.state.reading) (fed-fed start so_far.bytes piece)
+                subst (λ from. Gives from (items_of (turns_of events)) new.session.state.reading) (fed-fed reading_start so_far.bytes piece)
                 all.turned.gives;
             gains = all.turned.gains;
             order = all.turned.order;
@@ -309,7 +309,7 @@ module _ {I O W : Type 0} {inlet : InletGhosts I} {outlet : OutletGhosts O} {doe
       }
 
   -- nothing more was read
-  pub so_far_read : Joins inlet.gives → {progress : Progress} {old : Context I O W} {reader reader' : I} {new : Delivery O W}
+  pub so_far_read : Joins inlet.gives → {progress : Progress} {old : Context I O W} {reader reader' : I} {new : DeliveryState O W}
       → ServedSoFar (serving inlet outlet does) progress old (serve_state reader new) → inlet.gives reader [] reader'
       → inlet.idles reader' ≡ inlet.idles reader
       → ServedSoFar (serving inlet outlet does) progress old (serve_state reader' new)
@@ -322,7 +322,7 @@ module _ {I O W : Type 0} {inlet : InletGhosts I} {outlet : OutletGhosts O} {doe
     delivered = so_far.delivered;
   }
 
-  abbrev transcript : {progress : Progress} {old : Context I O W} {reader : I} {new : Delivery O W}
+  abbrev transcript : {progress : Progress} {old : Context I O W} {reader : I} {new : DeliveryState O W}
       → ServedSoFar (serving inlet outlet does) progress old (serve_state reader new)
       → Transcript (serving inlet outlet does) old (context reader new.writer new.session.parts)
   transcript {old} {new} so_far = record {
@@ -340,7 +340,7 @@ module _ {I O W : Type 0} {inlet : InletGhosts I} {outlet : OutletGhosts O} {doe
   }
 
   -- the input ended
-  pub served : {old : Context I O W} {reader : I} {new : Delivery O W} (report : Report)
+  pub served : {old : Context I O W} {reader : I} {new : DeliveryState O W} (report : Report)
       → ServedSoFar (serving inlet outlet does) NeedsInput old (serve_state reader new) → inlet.is_ended reader
       → report.requests ≡ new.session.state.requests → report.unfinished ≡ length new.session.state.reading.unread
       → report.requests < 2 ^ 64
@@ -352,7 +352,7 @@ module _ {I O W : Type 0} {inlet : InletGhosts I} {outlet : OutletGhosts O} {doe
   }
 
   -- `quit` ended the session
-  pub served_quit : {old : Context I O W} {reader : I} {new : Delivery O W} (report : Report)
+  pub served_quit : {old : Context I O W} {reader : I} {new : DeliveryState O W} (report : Report)
       → ServedSoFar (serving inlet outlet does) Quit old (serve_state reader new)
       → report.requests ≡ new.session.state.requests → report.unfinished ≡ 0 → report.requests < 2 ^ 64
       → Served (serving inlet outlet does) old report (context reader new.writer new.session.parts)
@@ -363,7 +363,7 @@ module _ {I O W : Type 0} {inlet : InletGhosts I} {outlet : OutletGhosts O} {doe
   }
 
   -- the reader failed
-  pub stopped_by_read : {old : Context I O W} {reader : I} {new : Delivery O W}
+  pub stopped_by_read : {old : Context I O W} {reader : I} {new : DeliveryState O W}
       → ServedSoFar (serving inlet outlet does) NeedsInput old (serve_state reader new)
       → StoppedByRead (serving inlet outlet does) old (context reader new.writer new.session.parts)
   stopped_by_read so_far = record {
@@ -373,7 +373,7 @@ module _ {I O W : Type 0} {inlet : InletGhosts I} {outlet : OutletGhosts O} {doe
   }
 
   -- a line too long came
-  pub stopped_by_line : {old : Context I O W} {reader : I} {new : Delivery O W}
+  pub stopped_by_line : {old : Context I O W} {reader : I} {new : DeliveryState O W}
       → ServedSoFar (serving inlet outlet does) LineTooLong old (serve_state reader new)
       → StoppedByLine (serving inlet outlet does) old (context reader new.writer new.session.parts)
   stopped_by_line {new} so_far = record {
@@ -384,7 +384,7 @@ module _ {I O W : Type 0} {inlet : InletGhosts I} {outlet : OutletGhosts O} {doe
 
   -- a part of what a piece completed was answered and written
   stopped_early : Joins inlet.gives → Joins outlet.takes
-      → {old : Context I O W} {reader reader' : I} {mid new : Delivery O W}
+      → {old : Context I O W} {reader reader' : I} {mid new : DeliveryState O W}
       → (piece : List ℕ) → ServedSoFar (serving inlet outlet does) NeedsInput old (serve_state reader mid)
       → inlet.gives reader piece reader' → inlet.idles reader' ≡ inlet.idles reader
       → DeliveredPart (delivering outlet does) 0 (delivery (fed_state mid.session.state piece) mid.session.parts mid.writer mid.written) new
@@ -397,7 +397,7 @@ module _ {I O W : Type 0} {inlet : InletGhosts I} {outlet : OutletGhosts O} {doe
         left = all.left;
         reached = all.reached;
         input = joins_in old.reader reader reader' so_far.bytes piece so_far.input read;
-        items = subst (λ from. Gives from (items_of (turns_of all.events)) all.left) (fed-fed start so_far.bytes piece) all.gives;
+        items = subst (λ from. Gives from (items_of (turns_of all.events)) all.left) (fed-fed reading_start so_far.bytes piece) all.gives;
         gains = all.gains;
         counts = all.counts;
         order = all.order;
@@ -413,7 +413,7 @@ module _ {I O W : Type 0} {inlet : InletGhosts I} {outlet : OutletGhosts O} {doe
 
   -- memory ran out in it
   stopped_by_memory : Joins inlet.gives → Joins outlet.takes
-      → {old : Context I O W} {reader reader' : I} {mid new : Delivery O W}
+      → {old : Context I O W} {reader reader' : I} {mid new : DeliveryState O W}
       → (piece : List ℕ) → ServedSoFar (serving inlet outlet does) NeedsInput old (serve_state reader mid)
       → inlet.gives reader piece reader' → inlet.idles reader' ≡ inlet.idles reader
       → ShortOfMemory (delivering outlet does) (delivery (fed_state mid.session.state piece) mid.session.parts mid.writer mid.written) new
@@ -424,7 +424,7 @@ module _ {I O W : Type 0} {inlet : InletGhosts I} {outlet : OutletGhosts O} {doe
 
   -- the writer failed in it
   stopped_by_write : Joins inlet.gives → Joins outlet.takes
-      → {old : Context I O W} {reader reader' : I} {mid new : Delivery O W}
+      → {old : Context I O W} {reader reader' : I} {mid new : DeliveryState O W}
       → (count : ℕ) (piece : List ℕ) → ServedSoFar (serving inlet outlet does) NeedsInput old (serve_state reader mid)
       → inlet.gives reader piece reader' → inlet.idles reader' ≡ inlet.idles reader
       → WriterFailed (delivering outlet does) (delivery (fed_state mid.session.state piece) mid.session.parts mid.writer mid.written) count new
@@ -440,7 +440,7 @@ module _ {I O W : Type 0} {inlet : InletGhosts I} {outlet : OutletGhosts O} {doe
 
   -- a piece was read, and the session stopped at it
   pub session_stopped : Joins inlet.gives → Joins outlet.takes
-      → (cause : SessionFault) {old : Context I O W} {reader reader' : I} {mid : Delivery O W} (new : Delivery O W) (piece : List ℕ)
+      → (cause : SessionFault) {old : Context I O W} {reader reader' : I} {mid : DeliveryState O W} (new : DeliveryState O W) (piece : List ℕ)
       → ServedSoFar (serving inlet outlet does) NeedsInput old (serve_state reader mid)
       → inlet.gives reader piece reader' → inlet.idles reader' ≡ inlet.idles reader
       → inlet.failures reader' ≡ inlet.failures old.reader → outlet.failures mid.writer ≡ outlet.failures old.writer
@@ -467,10 +467,10 @@ module _ {I O W : Type 0} {inlet : InletGhosts I} {outlet : OutletGhosts O} {doe
     early = record {
       bytes = [];
       events = [];
-      left = start;
+      left = reading_start;
       reached = parts;
       input = nothing_in;
-      items = Gives-none start;
+      items = Gives-none reading_start;
       gains = gains_none parts;
       counts = counts_none parts;
       order = refl;
@@ -487,7 +487,7 @@ module _ {I O W : Type 0} {inlet : InletGhosts I} {outlet : OutletGhosts O} {doe
   }
 
   -- a session that needs input may still read
-  pub so_far_reads : {old : Context I O W} {reader : I} {new : Delivery O W}
+  pub so_far_reads : {old : Context I O W} {reader : I} {new : DeliveryState O W}
       → ServedSoFar (serving inlet outlet does) NeedsInput old (serve_state reader new) → new.session.state.reading.after ≢ Never
   so_far_reads {new} so_far =
       reading_goes_on so_far.bytes (items_of (turns_of so_far.delivered.events)) new.session.state.reading so_far.delivered.turned.gives
@@ -496,7 +496,7 @@ module _ {I O W : Type 0} {inlet : InletGhosts I} {outlet : OutletGhosts O} {doe
 module _ {I O H L T C : Type 0} {inlet : InletGhosts I} {outlet : OutletGhosts O} {ghosts : PartsGhosts H L T C} where
   -- the reader was idle, and a round was run
   pub so_far_idle : Joins inlet.gives
-      → {old : Context I O (Parts H L T C)} {reader reader' : I} {mid : Delivery O (Parts H L T C)} {after : Parts H L T C}
+      → {old : Context I O (Parts H L T C)} {reader reader' : I} {mid : DeliveryState O (Parts H L T C)} {after : Parts H L T C}
       → ServedSoFar (serving inlet outlet (effects_of ghosts)) NeedsInput old (serve_state reader mid)
       → inlet.gives reader [] reader' → inlet.idles reader' ≡ inlet.idles reader + 1
       → Rounded ghosts.backend false mid.session.parts after
@@ -504,9 +504,9 @@ module _ {I O H L T C : Type 0} {inlet : InletGhosts I} {outlet : OutletGhosts O
       (serve_state reader' (delivery mid.session.state after mid.writer mid.written))
   so_far_idle joins {old} {reader} {reader'} {mid} {after} so_far read idle rounded =
       let before = so_far.delivered in
-      let last : List Event = IdleRound rounded.round.visits ∷ [] in
+      let last : List SessionEvent = IdleRound rounded.round.visits ∷ [] in
       let items = items-append before.events last ∙ append-nil (items_of (turns_of before.events)) in
-      let text = text-append before.events last ∙ append-nil (text_of (turns_of before.events)) in
+      let text = text-append before.events last ∙ append-nil (replies_text (turns_of before.events)) in
       record {
         bytes = so_far.bytes;
         input =
@@ -528,16 +528,16 @@ module _ {I O H L T C : Type 0} {inlet : InletGhosts I} {outlet : OutletGhosts O
 
   -- the reader was idle, and memory ran out in the round
   pub stopped_idle : Joins inlet.gives
-      → {short : Bool} {old : Context I O (Parts H L T C)} {reader reader' : I} {mid : Delivery O (Parts H L T C)} {after : Parts H L T C}
+      → {short : Bool} {old : Context I O (Parts H L T C)} {reader reader' : I} {mid : DeliveryState O (Parts H L T C)} {after : Parts H L T C}
       → ServedSoFar (serving inlet outlet (effects_of ghosts)) NeedsInput old (serve_state reader mid)
       → inlet.gives reader [] reader' → inlet.idles reader' ≡ inlet.idles reader + 1
       → Rounded ghosts.backend short mid.session.parts after
       → StoppedByMemory (serving inlet outlet (effects_of ghosts)) old (context reader' mid.writer after)
   stopped_idle joins {short} {old} {reader} {reader'} {mid} {after} so_far read idle rounded =
       let before = so_far.delivered in
-      let last : List Event = IdleRound rounded.round.visits ∷ [] in
+      let last : List SessionEvent = IdleRound rounded.round.visits ∷ [] in
       let items = items-append before.events last ∙ append-nil (items_of (turns_of before.events)) in
-      let text = text-append before.events last ∙ append-nil (text_of (turns_of before.events)) in
+      let text = text-append before.events last ∙ append-nil (replies_text (turns_of before.events)) in
       let ended = in_session NeedsInput (items_of (turns_of before.events)) mid.session.state.reading before.progress_is in
       record {
         early = record {
@@ -548,16 +548,16 @@ module _ {I O H L T C : Type 0} {inlet : InletGhosts I} {outlet : OutletGhosts O
           input =
               let all = joins old.reader reader reader' so_far.bytes [] so_far.input read in
               subst (λ bytes. inlet.gives old.reader bytes reader') (append-nil so_far.bytes) all;
-          items = subst (λ xs. Gives (fed start so_far.bytes) xs mid.session.state.reading) (sym items) before.turned.gives;
+          items = subst (λ xs. Gives (fed reading_start so_far.bytes) xs mid.session.state.reading) (sym items) before.turned.gives;
           gains = gains_append before.turned.gains (gains_one (record { short = short; round = rounded.round; visited = refl; others = rounded.others; sends = rounded.sends }));
           counts = counts_append before.turned.counts (counts_idle {ghosts = ghosts} rounded);
           order = order-append false mid.session.state.owes false before.events last before.turned.order (rw before.owes refl);
           idles = omega (arith, so_far.idles, idle, idles-append before.events last);
           ends = at_once (short-last before.events last before.turned.memory (omega arith)) refl;
           in_session = subst InSession (sym items) ended;
-          front = text_of (turns_of before.events);
+          front = replies_text (turns_of before.events);
           unwritten = [];
-          text = text ∙ sym (append-nil (text_of (turns_of before.events)));
+          text = text ∙ sym (append-nil (replies_text (turns_of before.events)));
           output = before.output.output;
           batch = no_batch before.events last refl (omega arith);
         };
@@ -566,7 +566,7 @@ module _ {I O H L T C : Type 0} {inlet : InletGhosts I} {outlet : OutletGhosts O
 
 module _ {H L T C : Type 0} {ghosts : PartsGhosts H L T C} where
   -- after a request that was cut short its round was run
-  ends_paid : {events : List Event} {left : Reading} {reached after : Parts H L T C} {mid : Snapshot (Parts H L T C)} {short : Bool}
+  ends_paid : {events : List SessionEvent} {left : Reading} {reached after : Parts H L T C} {mid : Snapshot (Parts H L T C)} {short : Bool}
       → NoneShort events → IsBehind (effects_of ghosts).cut (stop_point events left reached) mid
       → IsRun ghosts.backend mid short after
       → EndsAt (effects_of ghosts) (stop_point events left reached) after
@@ -580,16 +580,16 @@ module _ {H L T C : Type 0} {ghosts : PartsGhosts H L T C} where
 
 module _ {O H L T C : Type 0} {outlet : OutletGhosts O} {ghosts : PartsGhosts H L T C} where
   -- items were answered, their replies were written, the owed round was run, and no reply waits
-  pub all_of : {progress : Progress} {old : Delivery O (Parts H L T C)} {mid : Snapshot (Parts H L T C)} {state : SessionState}
+  pub all_of : {progress : Progress} {old : DeliveryState O (Parts H L T C)} {mid : Snapshot (Parts H L T C)} {state : SessionState}
       {after : Parts H L T C} {writer : O} {written : ℕ}
-      → Answered (effects_of ghosts) progress old.session mid → IsRun ghosts.backend mid false after
+      → HasAnswered (effects_of ghosts) progress old.session mid → IsRun ghosts.backend mid false after
       → old.session.state.outbox ≡ [] → Writes outlet.takes (old.writer, old.written) mid.state.outbox (writer, written)
       → outlet.failures writer ≡ outlet.failures old.writer → state ≡ record mid.state { outbox = []; owes = false }
       → AllDelivered (delivering outlet (effects_of ghosts)) progress old (delivery state after writer written)
   all_of {progress} {old} {mid} {state} {after} {writer} {written} answered run empty wrote calm is =
       let it = paid {ghosts = ghosts} run in
-      let text : mid.state.outbox ≡ text_of (turns_of (answered.events ++ it.last)) =
-      answered.outbox ∙ ap (λ xs. xs ++ text_of (turns_of answered.events)) empty ∙ sym (text-paid answered.events it.last it.none) in
+      let text : mid.state.outbox ≡ replies_text (turns_of (answered.events ++ it.last)) =
+      answered.outbox ∙ ap (λ xs. xs ++ replies_text (turns_of answered.events)) empty ∙ sym (text-paid answered.events it.last it.none) in
       let reading : state.reading ≡ mid.state.reading = ap (λ (s : SessionState). s.reading) is in
       record {
         delivered = record {
@@ -607,9 +607,9 @@ module _ {O H L T C : Type 0} {outlet : OutletGhosts O} {ghosts : PartsGhosts H 
       }
 
   -- all items were answered, the owed round was run, and the front of the replies was written
-  pub ok_delivered : {progress : Progress} {short : Bool} {old new : Delivery O (Parts H L T C)} {mid : Snapshot (Parts H L T C)}
+  pub ok_delivered : {progress : Progress} {short : Bool} {old new : DeliveryState O (Parts H L T C)} {mid : Snapshot (Parts H L T C)}
       → (front unwritten : List ℕ)
-      → Answered (effects_of ghosts) progress old.session mid
+      → HasAnswered (effects_of ghosts) progress old.session mid
       → IsRun ghosts.backend mid short new.session.parts
       → old.session.state.outbox ≡ [] → mid.state.outbox ≡ front ++ unwritten
       → Writes outlet.takes (old.writer, old.written) front (new.writer, new.written)
@@ -633,13 +633,13 @@ module _ {O H L T C : Type 0} {outlet : OutletGhosts O} {ghosts : PartsGhosts H 
         unwritten = unwritten;
         text =
             text-paid answered.events it.last it.none
-            ∙ sym (answered.outbox ∙ ap (λ xs. xs ++ text_of (turns_of answered.events)) empty) ∙ split;
+            ∙ sym (answered.outbox ∙ ap (λ xs. xs ++ replies_text (turns_of answered.events)) empty) ∙ split;
         output = wrote;
         batch = one_batch answered.events it.last _ front empty answered.begin answered.at_once it.none it.one;
       }
 
   -- some items were answered, memory ran out, and the front of the replies was written
-  pub err_delivered : {short : Bool} {old new : Delivery O (Parts H L T C)} {mid : Snapshot (Parts H L T C)}
+  pub err_delivered : {short : Bool} {old new : DeliveryState O (Parts H L T C)} {mid : Snapshot (Parts H L T C)}
       → (front unwritten : List ℕ)
       → AnsweredPart (effects_of ghosts) old.session mid
       → IsRun ghosts.backend mid short new.session.parts
@@ -650,8 +650,8 @@ module _ {O H L T C : Type 0} {outlet : OutletGhosts O} {ghosts : PartsGhosts H 
       part_delivered front unwritten part (ends_paid {ghosts = ghosts} (work-short part.events part.at_once) part.behind run) empty split wrote
 
   -- all items were answered and all replies written, and memory ran out in the round
-  pub short_in_round : {progress : Progress} {short : Bool} {old new : Delivery O (Parts H L T C)} {mid : Snapshot (Parts H L T C)}
-      → Answered (effects_of ghosts) progress old.session mid
+  pub short_in_round : {progress : Progress} {short : Bool} {old new : DeliveryState O (Parts H L T C)} {mid : Snapshot (Parts H L T C)}
+      → HasAnswered (effects_of ghosts) progress old.session mid
       → IsRun ghosts.backend mid short new.session.parts → old.session.state.outbox ≡ []
       → Writes outlet.takes (old.writer, old.written) mid.state.outbox (new.writer, new.written)
       → outlet.failures new.writer ≡ outlet.failures old.writer
@@ -664,7 +664,7 @@ module _ {O H L T C : Type 0} {outlet : OutletGhosts O} {ghosts : PartsGhosts H 
   }
 
   -- some items were answered and all replies written, and memory ran out
-  pub short_in_items : {short : Bool} {old new : Delivery O (Parts H L T C)} {mid : Snapshot (Parts H L T C)}
+  pub short_in_items : {short : Bool} {old new : DeliveryState O (Parts H L T C)} {mid : Snapshot (Parts H L T C)}
       → AnsweredPart (effects_of ghosts) old.session mid
       → IsRun ghosts.backend mid short new.session.parts → old.session.state.outbox ≡ []
       → Writes outlet.takes (old.writer, old.written) mid.state.outbox (new.writer, new.written)
@@ -678,7 +678,7 @@ module _ {O H L T C : Type 0} {outlet : OutletGhosts O} {ghosts : PartsGhosts H 
   }
 
   -- the same, whichever it was, where the writer failed at the others
-  pub writer_failed : {short : Bool} {old new : Delivery O (Parts H L T C)} (mid : Snapshot (Parts H L T C))
+  pub writer_failed : {short : Bool} {old new : DeliveryState O (Parts H L T C)} (mid : Snapshot (Parts H L T C))
       → (front unwritten : List ℕ) (answered : Result Progress NoMemory)
       → AnsweringEnds (effects_of ghosts) old.session answered mid
       → IsRun ghosts.backend mid short new.session.parts

@@ -7,15 +7,15 @@ use Rattle.tko_pools.specs.Configs.{Configuration}
 use Rattle.tko_reply.specs.Answering.{retrieval}
 use Rattle.tko_reply.specs.Answers.{AreKeysRouted, IsKeyed, request_keys}
 use Rattle.tko_reply.specs.Interactions.{Interaction}
-use Rattle.tko_reply.specs.Replies.{HasValues, RoutedKey, joined, keys_in}
-use Rattle.tko_reply.specs.Standing.{Asking}
+use Rattle.tko_reply.specs.Replies.{HasValues, RoutedKey, joined_values, keys_in}
+use Rattle.tko_reply.specs.Standing.{SentKey}
 use Rattle.tko_reply.specs.declared.asking.OneKey.{OneKey}
 use Rattle.tko_reply.proofs.StandsLemmas.{IsAnswered, IsAt, IsPast, IsSending, JoinsOn, values_joined}
 use Rattle.tko_reply.proofs.StandsLemmas as stands
-use Rattle.tko_session.specs.SoFar.{AsksForKey, HasJoined, IsKeyPast, IsOneKeyOf, IsReplied, IsSentFor, Pending}
+use Rattle.tko_session.specs.SoFar.{AsksForKey, HasJoined, IsKeyPast, IsOneKeyOf, IsReplied, IsSentFor, PendingRequest}
 use Rattle.tko_session.specs.SoFar as so_far
 
-abbrev pub pending : Request → List ℕ → List Interaction → Pending
+abbrev pub pending : Request → List ℕ → List Interaction → PendingRequest
 pending request front done = record { request = request; front = front; done = done }
 
 retrieval_keys : (keys : List (List ℕ)) (unique : Bool) → request_keys (retrieval keys unique) ≡ keys
@@ -34,7 +34,7 @@ alone_first (one ∷ routed) only key left same =
     absurd (nothing_before (keys_in routed) key left rest)
 
 -- this key is to be asked for
-pub record IsNextOf (config : Configuration) (it : Pending) (key : List ℕ) (one : OneKey) (outbox : List ℕ) : Type 0 where
+pub record IsNextOf (config : Configuration) (it : PendingRequest) (key : List ℕ) (one : OneKey) (outbox : List ℕ) : Type 0 where
   pub left : List (List ℕ)
   pub asks : AsksForKey it.request (length it.front) key left one
   pub on : HasJoined config it (key ∷ left) outbox
@@ -63,7 +63,7 @@ asks_keyed (so_far.one_of is) = subst IsKeyed (sym is.whole) (retrieval_keyed is
 
 module _ {config : Configuration} where
   -- keys of a retrieval were routed
-  joins : {it : Pending} {key : List ℕ} {left left' : List (List ℕ)} {one : OneKey} {outbox : List ℕ}
+  joins : {it : PendingRequest} {key : List ℕ} {left left' : List (List ℕ)} {one : OneKey} {outbox : List ℕ}
       → (is : IsOneKeyOf it.request (length it.front) key left one) → HasJoined config it left' outbox → JoinsOn config (retrieval is.all is.unique) is.all left' it.front it.done outbox
   joins {it} is on = record {
     routed = on.routed;
@@ -84,12 +84,12 @@ module _ {config : Configuration} where
   }
 
   -- a key of it is the next one
-  pub to_at : {it : Pending} {key : List ℕ} {left : List (List ℕ)} {one : OneKey} {outbox : List ℕ}
+  pub to_at : {it : PendingRequest} {key : List ℕ} {left : List (List ℕ)} {one : OneKey} {outbox : List ℕ}
       → AsksForKey it.request (length it.front) key left one → HasJoined config it (key ∷ left) outbox → IsAt config it.request it.front key one it.done outbox
   to_at {it} {key} {left} {outbox = outbox} (so_far.only keys none is) on =
       let first : on.routed ≡ [] = alone_first on.routed key key left (sym keys ∙ on.keys) in
       stands.alone is keys (subst (λ routed. AreKeysRouted config it.request routed it.done) first on.each)
-      (on.appended ∙ ap (λ routed. it.front ++ joined routed) first ∙ append-nil it.front)
+      (on.appended ∙ ap (λ routed. it.front ++ joined_values routed) first ∙ append-nil it.front)
   to_at {left = left} (so_far.one_of is) on = stands.among is.all left is.unique is.whole is.some is.alone (joins is on)
 
   pub of_at : {request : Request} {front outbox : List ℕ} {was : List Interaction} {key : List ℕ} {one : OneKey}
@@ -106,7 +106,7 @@ module _ {config : Configuration} where
   }
 
   -- a send is out for it
-  pub to_sending : {it : Pending} {asking : Asking} {targets outbox : List ℕ}
+  pub to_sending : {it : PendingRequest} {asking : SentKey} {targets outbox : List ℕ}
       → IsSentFor config it asking targets outbox → IsSending config it.request it.front asking.waiting.server asking targets it.done outbox
   to_sending sent = record {
     key = sent.key;
@@ -120,7 +120,7 @@ module _ {config : Configuration} where
     are = sent.are;
   }
 
-  pub of_sending : {request : Request} {front outbox : List ℕ} {was : List Interaction} {clear : ℕ} {asking : Asking} {targets : List ℕ}
+  pub of_sending : {request : Request} {front outbox : List ℕ} {was : List Interaction} {clear : ℕ} {asking : SentKey} {targets : List ℕ}
       → IsSending config request front clear asking targets was outbox → IsSentFor config (pending request front was) asking targets outbox
   of_sending sending =
       let at = of_at sending.at in
@@ -140,7 +140,7 @@ module _ {config : Configuration} where
       }
 
   -- a key of it was routed, and its trail recorded
-  pub to_past : {it : Pending} {one : OneKey} {outbox : List ℕ} → IsKeyPast config it one outbox → IsPast config it.request it.front one it.done outbox
+  pub to_past : {it : PendingRequest} {one : OneKey} {outbox : List ℕ} → IsKeyPast config it one outbox → IsPast config it.request it.front one it.done outbox
   to_past (so_far.complete silent is by_key done) =
       stands.complete silent is (record { routed = done.routed; text = done.text; answers = done.answers; appended = done.appended })
   to_past (so_far.values key left is on) = values_joined is.all left is.unique key is.whole is.some is.alone (joins is on)
@@ -152,6 +152,6 @@ module _ {config : Configuration} where
   of_past by_key (values_joined all left unique key whole some is on) =
       so_far.values key left (record { all = all; unique = unique; whole = whole; some = some; alone = is }) (of_joins all unique whole on)
 
-  pub past_keyed : {it : Pending} {one : OneKey} {outbox : List ℕ} → IsKeyPast config it one outbox → IsKeyed it.request
+  pub past_keyed : {it : PendingRequest} {one : OneKey} {outbox : List ℕ} → IsKeyPast config it one outbox → IsKeyed it.request
   past_keyed (so_far.complete silent is by_key done) = by_key
   past_keyed (so_far.values key left is on) = subst IsKeyed (sym is.whole) (retrieval_keyed is.all is.unique)

@@ -25,12 +25,12 @@ use Rattle.tko_reply.specs.Interactions.{Interaction, Recorded, sends_by}
 use Rattle.tko_reply.specs.TrailEvents.{Asked}
 use Rattle.tko_reply.specs.Replies.{trails_in}
 use Rattle.tko_session.specs.Effects.{effects_of}
-use Rattle.tko_session.specs.Events.{Answer, Effects, Event, IdleRound, NoneAtWork, RoundAfter, Rounded, idle_rounds, met_prober, owed_after, turns_of, visits_of}
+use Rattle.tko_session.specs.Events.{Answer, Effects, IdleRound, NoneAtWork, RoundAfter, Rounded, SessionEvent, idle_rounds, met_prober, owed_after, turns_of, visits_of}
 use Rattle.tko_session.specs.AnswerEnds.{IsRun, NoneRun}
 use Rattle.tko_reply.specs.Ghosts.{PartsGhosts}
 use Rattle.tko_prober.specs.Probers.{AreQuiet}
 use Rattle.tko_prober.specs.Round.{probes_in, ran_out}
-use Rattle.tko_session.specs.Turns.{IsTurn, Turn, is_request, refused}
+use Rattle.tko_session.specs.Turns.{IsSessionTurn, SessionTurn, is_request, refused}
 use Rattle.tko_session.specs.Turns as turns
 use Rattle.tko_session.specs.declared.step.Progress.{Progress}
 use Rattle.tko_session.specs.declared.step.Progress.TheVariants.{More, NeedsInput}
@@ -38,22 +38,22 @@ use Rattle.tko_session.specs.declared.step.Progress.TheVariants as progress
 use Rattle.tko_io.specs.Io.{capped}
 use Rattle.tko_io.proofs.WriteLemmas.{capped-more}
 use Rattle.tko_reply.specs.Replies.{reply_bound, sends_to}
-use Rattle.tko_session.specs.SessionState.{CountsRise, SessionState, Snapshot, Turned, Answered, AnsweredPart, Replied, Continues, EndsWith, GoesOn, InSession, IsBehind, ProgressIs, BeginBelowBound, progress_after, progress_of, snapshot, items_of, text_of, trails_of, requests_in, line_too_long, quit, cut_short, no_more, stop_point}
+use Rattle.tko_session.specs.SessionState.{CountsRise, SessionState, Snapshot, LeadsByEvents, HasAnswered, AnsweredPart, Replied, Continues, EndsWith, ContinuesAfterAll, InSession, IsBehind, ProgressIs, BeginBelowBound, progress_after, progress_of, snapshot, items_of, replies_text, trails_of, requests_in, line_too_long, quit, cut_short, no_more, stop_point}
 use Rattle.tko_text.proofs.GivesLemmas.{Gives-none, Gives-one, Gives-append}
 use Rattle.tko_session.proofs.EventLemmas.{idles-append, order-append, probes-append, quiet_round, short-append, turns-append, work-append}
 use Rattle.tko_text.proofs.NeverLemmas.{ends_reading}
 
-pub items-append : (events more : List Event)
+pub items-append : (events more : List SessionEvent)
     → items_of (turns_of (events ++ more)) ≡ items_of (turns_of events) ++ items_of (turns_of more)
 items-append events more =
     ap items_of (turns-append events more) ∙ map-append (λ turn. turn.item) (turns_of events) (turns_of more)
 
-pub text-append : (events more : List Event)
-    → text_of (turns_of (events ++ more)) ≡ text_of (turns_of events) ++ text_of (turns_of more)
+pub text-append : (events more : List SessionEvent)
+    → replies_text (turns_of (events ++ more)) ≡ replies_text (turns_of events) ++ replies_text (turns_of more)
 text-append events more =
-    ap text_of (turns-append events more) ∙ flat_map-append (λ turn. turn.text) (turns_of events) (turns_of more)
+    ap replies_text (turns-append events more) ∙ flat_map-append (λ turn. turn.text) (turns_of events) (turns_of more)
 
-pub sends-append : (server : ℕ) (events more : List Event)
+pub sends-append : (server : ℕ) (events more : List SessionEvent)
     → sends_to server (trails_of (turns_of (events ++ more)))
     ≡ sends_to server (trails_of (turns_of events)) + sends_to server (trails_of (turns_of more))
 sends-append server events more =
@@ -61,7 +61,7 @@ sends-append server events more =
     ap (sum_by (sends_in server)) trails
     ∙ sum_by-append (sends_in server) (trails_of (turns_of events)) (trails_of (turns_of more))
 
-pub requests-append : (events more : List Event)
+pub requests-append : (events more : List SessionEvent)
     → requests_in (items_of (turns_of (events ++ more)))
     ≡ requests_in (items_of (turns_of events)) + requests_in (items_of (turns_of more))
 requests-append events more =
@@ -69,19 +69,19 @@ requests-append events more =
     ∙ sum_by-append (λ item. cond (is_request item) 1 0) (items_of (turns_of events)) (items_of (turns_of more))
 
 -- turns that begin below the bound, and then more that do
-begin-append : (waiting : ℕ) (turns more : List Turn) → BeginBelowBound waiting turns
-    → BeginBelowBound (waiting + length (text_of turns)) more → BeginBelowBound waiting (turns ++ more)
+begin-append : (waiting : ℕ) (turns more : List SessionTurn) → BeginBelowBound waiting turns
+    → BeginBelowBound (waiting + length (replies_text turns)) more → BeginBelowBound waiting (turns ++ more)
 begin-append waiting [] more front back = subst (λ n. BeginBelowBound n more) (add-zero waiting) back
 begin-append waiting (turn ∷ turns) more (below, front) back =
-    let sum : waiting + length (text_of (turn ∷ turns)) ≡ waiting + length turn.text + length (text_of turns) =
-    omega (arith, length-append turn.text (text_of turns)) in
+    let sum : waiting + length (replies_text (turn ∷ turns)) ≡ waiting + length turn.text + length (replies_text turns) =
+    omega (arith, length-append turn.text (replies_text turns)) in
     (below, begin-append (waiting + length turn.text) turns more front (subst (λ n. BeginBelowBound n more) sum back))
 
-pub goes_on-append : (items more : List Item) → GoesOn items → GoesOn more → GoesOn (items ++ more)
+pub goes_on-append : (items more : List Item) → ContinuesAfterAll items → ContinuesAfterAll more → ContinuesAfterAll (items ++ more)
 goes_on-append items more front back = All-append Continues items more front back
 
 -- the last of the later items is the last of all
-ends-append : (last : Item) (items more : List Item) → GoesOn items → EndsWith last more → EndsWith last (items ++ more)
+ends-append : (last : Item) (items more : List Item) → ContinuesAfterAll items → EndsWith last more → EndsWith last (items ++ more)
 ends-append last items more front ends = record {
   before = items ++ ends.before;
   parts = ap (λ xs. items ++ xs) ends.parts ∙ sym (append_assoc items ends.before (last ∷ []));
@@ -89,7 +89,7 @@ ends-append last items more front ends = record {
 }
 
 -- what the later items say of progress, all say
-pub progress-append : (progress : Progress) (items more : List Item) (reading : Reading) → GoesOn items
+pub progress-append : (progress : Progress) (items more : List Item) (reading : Reading) → ContinuesAfterAll items
     → ProgressIs progress more reading → ProgressIs progress (items ++ more) reading
 progress-append progress.More items more reading front back = goes_on-append items more front back
 progress-append progress.NeedsInput items more reading front (back, none) = (goes_on-append items more front back, none)
@@ -97,7 +97,7 @@ progress-append progress.LineTooLong items more reading front (ends, never) = (e
 progress-append progress.Quit items more reading front ends = ends-append quit items more front ends
 
 -- no item, and the session may go on
-pub goes_on-none : GoesOn []
+pub goes_on-none : ContinuesAfterAll []
 goes_on-none = All-nil Continues
 
 -- the progress after the reply to a fault
@@ -115,14 +115,14 @@ fault_progress fault.TooLarge from to tells = All-cons Continues _ [] (record { 
 request-of : (it other : Request) → item.Request it ≡ item.Request other → it ≡ other
 request-of it other same = cc
 
-pub in_session_of : (items : List Item) → GoesOn items → InSession items
+pub in_session_of : (items : List Item) → ContinuesAfterAll items → InSession items
 in_session_of items goes = record { before = items; last = []; parts = sym (append-nil items); goes_on = goes; one = omega arith }
 
 in_session_ended : (last : Item) (items : List Item) → EndsWith last items → InSession items
 in_session_ended last items ends = record { before = ends.before; last = last ∷ []; parts = ends.parts; goes_on = ends.goes_on; one = omega arith }
 
 -- the session goes on after this request
-goes_on-one : (it : Request) → it ≢ asked.Quit → GoesOn (item.Request it ∷ [])
+goes_on-one : (it : Request) → it ≢ asked.Quit → ContinuesAfterAll (item.Request it ∷ [])
 goes_on-one it other =
     All-cons Continues (item.Request it) [] (record { read = λ same. cc; asked = λ same. other (request-of it asked.Quit same) })
     goes_on-none
@@ -148,7 +148,7 @@ in_session progress.NeedsInput items to (goes, none) = in_session_of items goes
 in_session progress.LineTooLong items to (ends, never) = in_session_ended line_too_long items ends
 in_session progress.Quit items to ends = in_session_ended quit items ends
 
-pub in_session-append : (items more : List Item) → GoesOn items → InSession more → InSession (items ++ more)
+pub in_session-append : (items more : List Item) → ContinuesAfterAll items → InSession more → InSession (items ++ more)
 in_session-append items more front back = record {
   before = items ++ back.before;
   last = back.last;
@@ -157,45 +157,45 @@ in_session-append items more front back = record {
   one = back.one;
 }
 
-pub events_in_session : (events more : List Event) → GoesOn (items_of (turns_of events))
+pub events_in_session : (events more : List SessionEvent) → ContinuesAfterAll (items_of (turns_of events))
     → InSession (items_of (turns_of more)) → InSession (items_of (turns_of (events ++ more)))
 events_in_session events more front back =
     subst InSession (sym (items-append events more)) (in_session-append (items_of (turns_of events)) (items_of (turns_of more)) front back)
 
 -- the session goes on after these events, and after those
-pub events_go_on : (events more : List Event) → GoesOn (items_of (turns_of events)) → GoesOn (items_of (turns_of more))
-    → GoesOn (items_of (turns_of (events ++ more)))
+pub events_go_on : (events more : List SessionEvent) → ContinuesAfterAll (items_of (turns_of events)) → ContinuesAfterAll (items_of (turns_of more))
+    → ContinuesAfterAll (items_of (turns_of (events ++ more)))
 events_go_on events more front back =
-    subst GoesOn (sym (items-append events more)) (goes_on-append (items_of (turns_of events)) (items_of (turns_of more)) front back)
+    subst ContinuesAfterAll (sym (items-append events more)) (goes_on-append (items_of (turns_of events)) (items_of (turns_of more)) front back)
 
 -- progress of events that come after others
-pub events_progress : (progress : Progress) (events more : List Event) (reading : Reading) → GoesOn (items_of (turns_of events))
+pub events_progress : (progress : Progress) (events more : List SessionEvent) (reading : Reading) → ContinuesAfterAll (items_of (turns_of events))
     → ProgressIs progress (items_of (turns_of more)) reading → ProgressIs progress (items_of (turns_of (events ++ more))) reading
 events_progress progress events more reading front back =
     subst (λ items. ProgressIs progress items reading) (sym (items-append events more))
     (progress-append progress (items_of (turns_of events)) (items_of (turns_of more)) reading front back)
 
 -- texts of events that come after others
-pub waiting-append : (waiting mid all : List ℕ) (events more : List Event) → mid ≡ waiting ++ text_of (turns_of events)
-    → all ≡ mid ++ text_of (turns_of more) → all ≡ waiting ++ text_of (turns_of (events ++ more))
+pub waiting-append : (waiting mid all : List ℕ) (events more : List SessionEvent) → mid ≡ waiting ++ replies_text (turns_of events)
+    → all ≡ mid ++ replies_text (turns_of more) → all ≡ waiting ++ replies_text (turns_of (events ++ more))
 waiting-append waiting mid all events more front back =
-    back ∙ ap (λ text. text ++ text_of (turns_of more)) front
-    ∙ append_assoc waiting (text_of (turns_of events)) (text_of (turns_of more))
+    back ∙ ap (λ text. text ++ replies_text (turns_of more)) front
+    ∙ append_assoc waiting (replies_text (turns_of events)) (replies_text (turns_of more))
     ∙ ap (λ text. waiting ++ text) (sym (text-append events more))
 
 -- events whose items are answered below the bound, and then more of them
-pub below-append : (outbox mid : List ℕ) (events more : List Event) → mid ≡ outbox ++ text_of (turns_of events)
+pub below-append : (outbox mid : List ℕ) (events more : List SessionEvent) → mid ≡ outbox ++ replies_text (turns_of events)
     → BeginBelowBound (length outbox) (turns_of events) → BeginBelowBound (length mid) (turns_of more)
     → BeginBelowBound (length outbox) (turns_of (events ++ more))
 below-append outbox mid events more is front back =
-    let len : length mid ≡ length outbox + length (text_of (turns_of events)) =
-    ap length is ∙ length-append outbox (text_of (turns_of events)) in
+    let len : length mid ≡ length outbox + length (replies_text (turns_of events)) =
+    ap length is ∙ length-append outbox (replies_text (turns_of events)) in
     subst (BeginBelowBound (length outbox)) (sym (turns-append events more))
     (begin-append (length outbox) (turns_of events) (turns_of more) front (subst (λ n. BeginBelowBound n (turns_of more)) len back))
 
 module _ {W : Type 0} {cut : Request → W → W → Type 0} where
   -- what was done behind events was done behind all of them
-  behind_after : {left : Reading} {reached : W} {new : Snapshot W} (events more : List Event) → GoesOn (items_of (turns_of events))
+  behind_after : {left : Reading} {reached : W} {new : Snapshot W} (events more : List SessionEvent) → ContinuesAfterAll (items_of (turns_of events))
       → IsBehind cut (stop_point more left reached) new → IsBehind cut (stop_point (events ++ more) left reached) new
   behind_after events more goes (no_more same none) = no_more same none
   behind_after events more goes (cut_short it to going emits is owed) =
@@ -209,7 +209,7 @@ module _ {W : Type 0} {does : Effects W} where
   }
 
   -- these counts rose by events, and then by more of them
-  pub counts_append : {old mid new : W} {events more : List Event} → CountsRise does old events mid → CountsRise does mid more new
+  pub counts_append : {old mid new : W} {events more : List SessionEvent} → CountsRise does old events mid → CountsRise does mid more new
       → CountsRise does old (events ++ more) new
   counts_append {old} {mid} {new} {events} {more} front back = record {
     sends = λ server. omega (arith, front.sends server, back.sends server, sends-append server events more);
@@ -246,7 +246,7 @@ module _ {W : Type 0} {does : Effects W} where
       → AnsweredPart does (snapshot old before) (snapshot new after)
   part_cut old new it to before after emits is same none owed = part_behind old new same none (cut_short it to goes_on-none emits is owed)
 
-  pub turned_none : (here : Snapshot W) → Turned does here [] here
+  pub turned_none : (here : Snapshot W) → LeadsByEvents does here [] here
   turned_none here = record {
     gives = Gives-none here.state.reading;
     gains = gains_none here.parts;
@@ -256,8 +256,8 @@ module _ {W : Type 0} {does : Effects W} where
     requests = ap capped (sym (add-zero here.state.requests));
   }
 
-  pub turned_append : {old mid new : Snapshot W} {events more : List Event}
-      → Turned does old events mid → Turned does mid more new → Turned does old (events ++ more) new
+  pub turned_append : {old mid new : Snapshot W} {events more : List SessionEvent}
+      → LeadsByEvents does old events mid → LeadsByEvents does mid more new → LeadsByEvents does old (events ++ more) new
   turned_append {old} {mid} {new} {events} {more} front back = record {
     gives =
         let gives = Gives-append _ _ _ _ _ front.gives back.gives in
@@ -271,7 +271,7 @@ module _ {W : Type 0} {does : Effects W} where
         more_than ∙ ap (λ n. capped (old.state.requests + n)) (sym (requests-append events more));
   }
 
-  pub answered_none : (state : SessionState) (world : W) → Answered does More (snapshot state world) (snapshot state world)
+  pub answered_none : (state : SessionState) (world : W) → HasAnswered does More (snapshot state world) (snapshot state world)
   answered_none state world = record {
     events = [];
     turned = turned_none (snapshot state world);
@@ -283,7 +283,7 @@ module _ {W : Type 0} {does : Effects W} where
   }
 
   pub answered_open : (old new : SessionState) (world : W) → NeedsMore old.reading → new ≡ old
-      → Answered does NeedsInput (snapshot old world) (snapshot new world)
+      → HasAnswered does NeedsInput (snapshot old world) (snapshot new world)
   answered_open old new world none same = rw same (record {
     events = [];
     turned = turned_none (snapshot old world);
@@ -295,7 +295,7 @@ module _ {W : Type 0} {does : Effects W} where
   })
 
   pub answered_append : {progress : Progress} {old mid new : Snapshot W}
-      → Answered does More old mid → Answered does progress mid new → Answered does progress old new
+      → HasAnswered does More old mid → HasAnswered does progress mid new → HasAnswered does progress old new
   answered_append {progress} {old} {mid} {new} front back = record {
     events = front.events ++ back.events;
     turned = turned_append front.turned back.turned;
@@ -306,7 +306,7 @@ module _ {W : Type 0} {does : Effects W} where
     progress_is = events_progress progress front.events back.events new.state.reading front.progress_is back.progress_is;
   }
 
-  pub part_after : {old mid new : Snapshot W} → Answered does More old mid → AnsweredPart does mid new
+  pub part_after : {old mid new : Snapshot W} → HasAnswered does More old mid → AnsweredPart does mid new
       → AnsweredPart does old new
   part_after {old} {mid} {new} front back = record {
     events = front.events ++ back.events;
@@ -327,8 +327,8 @@ module _ {W : Type 0} {does : Effects W} where
   }
 
 -- a turn sent as often as its trails did
-turn_sends : (server : ℕ) (config : Configuration) (turn : Turn) (done : List Interaction)
-    → IsTurn config turn done → sum_by (sends_by server) done ≡ sends_to server (trails_in turn.routed)
+turn_sends : (server : ℕ) (config : Configuration) (turn : SessionTurn) (done : List Interaction)
+    → IsSessionTurn config turn done → sum_by (sends_by server) done ≡ sends_to server (trails_in turn.routed)
 turn_sends server config turn done (refused fault is none text nothing) =
     ap (sum_by (sends_by server)) nothing ∙ sym (ap (λ routed. sends_to server (trails_in routed)) none)
 turn_sends server config turn done (turns.answered request then is are it) =
@@ -342,12 +342,12 @@ module _ {H L T C : Type 0} (ghosts : PartsGhosts H L T C) where
       → Emits old.reading (item.Fault fault) mid.reading → mid ≡ record old { reading = mid.reading }
       → new ≡ record mid { outbox = mid.outbox ++ fault_text fault } → progress ≡ progress_after fault
       → old.owes ≡ false → length old.outbox < reply_bound
-      → Answered (effects_of ghosts) progress (snapshot old world) (snapshot new world)
+      → HasAnswered (effects_of ghosts) progress (snapshot old world) (snapshot new world)
   answered_fault old mid new world fault progress told same e is none room = record {
     events = Answer (record { item = item.Fault fault; routed = []; text = fault_text fault }) ∷ [];
     turned = record {
       gives = subst (λ to. Gives old.reading (item.Fault fault ∷ []) to) (sym (ap (λ s. s.reading) e)) (Gives-one _ _ _ told);
-      gains = gains_one (performs (λ config. IsTurn config (record { item = item.Fault fault; routed = []; text = fault_text fault })) (refused fault refl refl refl refl) (gains_none world));
+      gains = gains_one (performs (λ config. IsSessionTurn config (record { item = item.Fault fault; routed = []; text = fault_text fault })) (refused fault refl refl refl refl) (gains_none world));
       order =
           let owes : new.owes ≡ false = ap (λ s. s.owes) e ∙ ap (λ s. s.owes) same ∙ none in
           rw (none, owes) refl;
@@ -373,7 +373,7 @@ module _ {H L T C : Type 0} (ghosts : PartsGhosts H L T C) where
 -- the round that was owed, as an event, or none
 pub record IsPaid {H L T C : Type 0} (ghosts : PartsGhosts H L T C) (short : Bool) (mid : Snapshot (Parts H L T C))
     (after : Parts H L T C) : Type 0 where
-  pub last : List Event
+  pub last : List SessionEvent
   pub none : turns_of last ≡ []
   pub one : length last ≤ 1
   pub gains : Gains (effects_of ghosts).step mid.parts last after
@@ -384,13 +384,13 @@ pub record IsPaid {H L T C : Type 0} (ghosts : PartsGhosts H L T C) (short : Boo
   pub at_once : AreQuiet mid.parts.backend.probers → NoneAtWork last
 
 -- events, and then one that answers no item
-pub items-paid : (events last : List Event) → turns_of last ≡ [] → items_of (turns_of (events ++ last)) ≡ items_of (turns_of events)
+pub items-paid : (events last : List SessionEvent) → turns_of last ≡ [] → items_of (turns_of (events ++ last)) ≡ items_of (turns_of events)
 items-paid events last none =
     items-append events last ∙ ap (λ turns. items_of (turns_of events) ++ items_of turns) none ∙ append-nil (items_of (turns_of events))
 
-pub text-paid : (events last : List Event) → turns_of last ≡ [] → text_of (turns_of (events ++ last)) ≡ text_of (turns_of events)
+pub text-paid : (events last : List SessionEvent) → turns_of last ≡ [] → replies_text (turns_of (events ++ last)) ≡ replies_text (turns_of events)
 text-paid events last none =
-    text-append events last ∙ ap (λ turns. text_of (turns_of events) ++ text_of turns) none ∙ append-nil (text_of (turns_of events))
+    text-append events last ∙ ap (λ turns. replies_text (turns_of events) ++ replies_text turns) none ∙ append-nil (replies_text (turns_of events))
 
 module _ {H L T C : Type 0} {ghosts : PartsGhosts H L T C} where
   -- a request was replied to, and its round is owed
@@ -398,7 +398,7 @@ module _ {H L T C : Type 0} {ghosts : PartsGhosts H L T C} where
       → Emits old.reading (item.Request it) mid.reading → mid ≡ record old { reading = mid.reading }
       → Replied ghosts (snapshot mid before) it (snapshot new after) → progress ≡ progress_of it
       → old.owes ≡ false → length old.outbox < reply_bound
-      → Answered (effects_of ghosts) progress (snapshot old before) (snapshot new after)
+      → HasAnswered (effects_of ghosts) progress (snapshot old before) (snapshot new after)
   answered_request old mid new before after it progress told same replied is none room = record {
     events = Answer (record { item = item.Request it; routed = replied.routed; text = replied.text }) ∷ [];
     turned = record {
@@ -481,7 +481,7 @@ module _ {H L T C : Type 0} {ghosts : PartsGhosts H L T C} where
   -- the round that was owed was run, and memory ran out nowhere
   pub turned_paid : {mid : Snapshot (Parts H L T C)} {state : SessionState} {after : Parts H L T C} (outbox : List ℕ)
       → (it : IsPaid ghosts false mid after) → state ≡ record mid.state { outbox = outbox; owes = false }
-      → Turned (effects_of ghosts) mid it.last (snapshot state after)
+      → LeadsByEvents (effects_of ghosts) mid it.last (snapshot state after)
   turned_paid {mid} {state} {after} outbox it is = record {
     gives =
         subst (λ turns. Gives mid.state.reading (items_of turns) state.reading) (sym it.none)
@@ -497,9 +497,9 @@ module _ {H L T C : Type 0} {ghosts : PartsGhosts H L T C} where
 
   -- the same after items, while no prober is at work
   pub answered_paid : {progress : Progress} {old mid : Snapshot (Parts H L T C)} {state : SessionState} {after : Parts H L T C}
-      → Answered (effects_of ghosts) progress old mid → AreQuiet mid.parts.backend.probers
+      → HasAnswered (effects_of ghosts) progress old mid → AreQuiet mid.parts.backend.probers
       → IsRun ghosts.backend mid false after → state ≡ record mid.state { owes = false }
-      → Answered (effects_of ghosts) progress old (snapshot state after)
+      → HasAnswered (effects_of ghosts) progress old (snapshot state after)
   answered_paid {progress} {old} {mid} {state} {after} front quiet run is =
       let it = paid run in
       record {
@@ -519,7 +519,7 @@ module _ {H L T C : Type 0} {ghosts : PartsGhosts H L T C} where
   -- the round at an idle turn is an event
   pub turned_idle : {here : SessionState} {between after : Parts H L T C} → here.owes ≡ false
       → (rounded : Rounded ghosts.backend false between after)
-      → Turned (effects_of ghosts) (snapshot here between) (IdleRound rounded.round.visits ∷ []) (snapshot here after)
+      → LeadsByEvents (effects_of ghosts) (snapshot here between) (IdleRound rounded.round.visits ∷ []) (snapshot here after)
   turned_idle {here} {between} {after} none rounded = record {
     gives = Gives-none here.reading;
     gains = gains_one (record { short = false; round = rounded.round; visited = refl; others = rounded.others; sends = rounded.sends });

@@ -2,20 +2,20 @@
 use Rattle.std.proofs.Common.{◌≡◌, ◌≤◌, ℕ, List, [], ◌++◌, Option, length, take, drop, refl, sym, ap, subst, ◌∙◌, append_assoc, append-nil}
 use Rattle.std.specs.Prelude.{◌-◌}
 use Rattle.std.proofs.lemmas.List.{drop-append-le, length-drop, take-append-drop, take-append-le}
-use Rattle.tko_text.specs.Reading.{Gives, Reading, fed, start}
+use Rattle.tko_text.specs.Reading.{Gives, Reading, fed, reading_start}
 use Rattle.tko_text.specs.declared.request.Request.{Request}
 use Rattle.tko_pools.specs.Configs.{Configuration}
 use Rattle.tko_reply.specs.Answering.{Extends}
 use Rattle.tko_reply.specs.Interactions.{Interaction}
-use Rattle.tko_reply.specs.Replies.{joined}
-use Rattle.tko_reply.specs.Standing.{Asking, shifted_key, shifted_share}
+use Rattle.tko_reply.specs.Replies.{joined_values}
+use Rattle.tko_reply.specs.Standing.{SentKey, shifted_key, shifted_share}
 use Rattle.tko_reply.specs.declared.asking.OneKey.{OneKey}
 use Rattle.tko_keys.specs.KeysState.{KeysState}
 use Rattle.tko_keys.specs.declared.plan.KeyPlan.{KeyPlan}
 use Rattle.tko_session.specs.Clients.{Short, Over, IsClientShort, IsClientIn, IsClientOver, IsClientOpen, Life, ClientPhase, Open, life}
 use Rattle.tko_session.specs.Outgoing.{AreOutgoing, AreOutgoingIn, sent_from, shifted_begin, shifted_work}
 use Rattle.tko_session.specs.SessionState.{SessionState, items_of}
-use Rattle.tko_session.specs.SoFar.{AsksForKey, HasJoined, IsKeyPast, IsOneKeyOf, IsPendingAt, IsSentFor, Pending}
+use Rattle.tko_session.specs.SoFar.{AsksForKey, HasJoined, IsKeyPast, IsOneKeyOf, IsPendingAt, IsSentFor, PendingRequest}
 use Rattle.tko_session.specs.SoFar as so_far
 use Rattle.tko_session.specs.Working.{Between, Work}
 use Rattle.tko_session.specs.Working as work
@@ -43,24 +43,24 @@ asks_earlier count same (so_far.only keys none is) = so_far.only keys none (ap (
 asks_earlier count same (so_far.one_of is) = so_far.one_of (one_earlier count same is)
 
 -- the same request, before which less waits
-abbrev behind : ℕ → Pending → Pending
+abbrev behind : ℕ → PendingRequest → PendingRequest
 behind count it = record it { front = drop count it.front }
 
 dropped_front : (count : ℕ) (front more outbox : List ℕ) → count ≤ length front → outbox ≡ front ++ more → drop count outbox ≡ drop count front ++ more
 dropped_front count front more outbox within is = ap (drop count) is ∙ drop-append-le count front more within
 
 module _ {config : Configuration} where
-  joined_earlier : {it : Pending} {left : List (List ℕ)} {outbox : List ℕ} (count : ℕ) → count ≤ length it.front
+  joined_earlier : {it : PendingRequest} {left : List (List ℕ)} {outbox : List ℕ} (count : ℕ) → count ≤ length it.front
       → HasJoined config it left outbox → HasJoined config (behind count it) left (drop count outbox)
   joined_earlier {it} {outbox = outbox} count within on = record {
     routed = on.routed;
     keys = on.keys;
     each = on.each;
     values = on.values;
-    appended = dropped_front count it.front (joined on.routed) outbox within on.appended;
+    appended = dropped_front count it.front (joined_values on.routed) outbox within on.appended;
   }
 
-  past_earlier : {it : Pending} {one : OneKey} {outbox : List ℕ} (count : ℕ) → count ≤ length it.front → length it.front - count ≡ length (drop count it.front)
+  past_earlier : {it : PendingRequest} {one : OneKey} {outbox : List ℕ} (count : ℕ) → count ≤ length it.front → length it.front - count ≡ length (drop count it.front)
       → IsKeyPast config it one outbox → IsKeyPast config (behind count it) (shifted_key count one) (drop count outbox)
   past_earlier {it} {outbox = outbox} count within same (so_far.complete silent is by_key done) =
       so_far.complete silent (ap (shifted_share count) is) by_key
@@ -68,7 +68,7 @@ module _ {config : Configuration} where
   past_earlier count within same (so_far.values key left is on) =
       so_far.values key left (one_earlier count same is) (joined_earlier count within on)
 
-  sent_earlier : {it : Pending} {asking : Asking} {targets outbox : List ℕ} (count : ℕ) → count ≤ length it.front → length it.front - count ≡ length (drop count it.front)
+  sent_earlier : {it : PendingRequest} {asking : SentKey} {targets outbox : List ℕ} (count : ℕ) → count ≤ length it.front → length it.front - count ≡ length (drop count it.front)
       → IsSentFor config it asking targets outbox
       → IsSentFor config (behind count it) (record asking { key = shifted_key count asking.key }) targets (drop count outbox)
   sent_earlier count within same sent = record {
@@ -88,15 +88,15 @@ module _ {config : Configuration} where
 
 module _ (plan : KeyPlan) (keys : Option KeysState) (config : Configuration) where
   -- the replies before a request are there while it is under way
-  front_of : (it : Pending) (targets outbox : List ℕ) (at : Work) → IsPendingAt plan keys config it at targets outbox → Extends it.front outbox
+  front_of : (it : PendingRequest) (targets outbox : List ℕ) (at : Work) → IsPendingAt plan keys config it at targets outbox → Extends it.front outbox
   front_of it targets outbox work.Between never = absurd never
   front_of it targets outbox (work.Read one) (is, none, same) = record { more = []; is = same ∙ sym (append-nil it.front) }
-  front_of it targets outbox (work.Awaits asking) sent = record { more = joined sent.so_far.routed; is = sent.so_far.appended }
+  front_of it targets outbox (work.Awaits asking) sent = record { more = joined_values sent.so_far.routed; is = sent.so_far.appended }
   front_of it targets outbox (work.Ended one) (so_far.complete silent is by_key done) = record { more = done.text; is = done.appended }
-  front_of it targets outbox (work.Ended one) (so_far.values key left is on) = record { more = joined on.routed; is = on.appended }
+  front_of it targets outbox (work.Ended one) (so_far.values key left is on) = record { more = joined_values on.routed; is = on.appended }
   front_of it targets outbox work.HandedOver far = record { more = []; is = far.waits ∙ sym (append-nil it.front) }
 
-  far_earlier : (it : Pending) (targets outbox : List ℕ) (count : ℕ) (at : Work) → count ≤ length it.front → length it.front - count ≡ length (drop count it.front)
+  far_earlier : (it : PendingRequest) (targets outbox : List ℕ) (count : ℕ) (at : Work) → count ≤ length it.front → length it.front - count ≡ length (drop count it.front)
       → IsPendingAt plan keys config it at targets outbox → IsPendingAt plan keys config (behind count it) (shifted_work count at) targets (drop count outbox)
   far_earlier it targets outbox count work.Between within same never = absurd never
   far_earlier it targets outbox count (work.Read one) within same (is, none, front) = (ap (shifted_key count) is, none, ap (drop count) front)
@@ -179,7 +179,7 @@ wrote_over plan config it count old new f by = record {
   each = f.each;
   at = by.between;
   ends = f.ends;
-  gives = subst (λ r. Gives (fed start it.bytes) (items_of f.turns) r) (sym by.reading) f.gives;
+  gives = subst (λ r. Gives (fed reading_start it.bytes) (items_of f.turns) r) (sym by.reading) f.gives;
   text = ap (λ xs. (it.sent ++ take count old.outbox) ++ xs) by.waits ∙ wrote_text count it.sent old.outbox _ f.text;
   requests = rw by.requests f.requests;
 }

@@ -1,20 +1,20 @@
 -- What one act of a worker for a client adds to the client's life.
 use Rattle.std.specs.Prelude.{◌≡◌, ◌<◌, ℕ, Bool, false, List, [], ◌∷◌, ◌++◌, Some, None, Result, Ok, Err, map, take}
 use Rattle.tko_text.specs.declared.request.Request.{Request}
-use Rattle.tko_links.specs.declared.links.NoMemory.{NoMemory}
+use Rattle.tko_links.specs.declared.links.ExchangeNoMemory.{ExchangeNoMemory}
 use Rattle.tko_links.specs.declared.links.Outcome.{Outcome}
 use Rattle.tko_pools.specs.Configs.{Configuration}
-use Rattle.tko_route.specs.Calls.{Call, came}
+use Rattle.tko_route.specs.Calls.{RoutedCall, came}
 use Rattle.tko_route.specs.declared.attempt.Attempt.{Attempt}
 use Rattle.tko_reply.specs.Interactions.{Interaction, Made, Noted, Recorded, marks_of}
-use Rattle.tko_reply.specs.Standing.{Asking}
+use Rattle.tko_reply.specs.Standing.{SentKey}
 use Rattle.tko_reply.specs.TrailEvents.{Asked, Tried}
 use Rattle.tko_keys.specs.KeysActs.{KeysAct}
 use Rattle.tko_keys.specs.KeysState.{IsComplete, IsNew, KeysState, reply_in}
 use Rattle.tko_session.specs.declared.step.Progress.TheVariants as progress
 use Rattle.tko_session.specs.declared.step.Step.{Step}
 use Rattle.tko_session.specs.declared.step.Step.TheVariants as step
-use Rattle.tko_session.specs.Clients.{Client, ClientPhase, Life, Open, Over, Short, life, no_life}
+use Rattle.tko_session.specs.Clients.{ClientPhase, ClientState, Life, Open, Over, Short, life, no_life}
 use Rattle.tko_session.specs.Driven.{AwaitedDropped, AwaitedTaken, WasDropped, WentOn, dropped}
 use Rattle.tko_session.specs.Handing.{HandsOver, replied_by}
 use Rattle.tko_session.specs.Outgoing.{AreOutgoing, sent_from}
@@ -52,7 +52,7 @@ IsToRecord (step.Asks clear) = ⊥
 IsToRecord (step.At progress) = ⊥
 
 -- the send that is out came to this
-abbrev pub came_to : Asking → Result Outcome NoMemory → Interaction
+abbrev pub came_to : SentKey → Result Outcome ExchangeNoMemory → Interaction
 came_to it result = Made (came it.waiting.server it.key.request result)
 
 -- how a client stands after a call that said this: `quit` and a line too long end its session
@@ -65,10 +65,10 @@ phase_after _ = Open
 -- on, or took what came of its send.
 pub data IsSessionCall (config : Configuration) (old : SessionState) (done : List Interaction)
     (phase : ClientPhase) (new : SessionState) : Type 0 where
-  went : (calls : List Call) (said : Step) → WentOn config old calls said new
+  went : (calls : List RoutedCall) (said : Step) → WentOn config old calls said new
       → done ≡ map Made calls ++ recorded_after said new.work → phase ≡ phase_after said
       → IsSessionCall config old done phase new
-  took : (it : Asking) (outcome : Outcome) (calls : List Call) (said : Step)
+  took : (it : SentKey) (outcome : Outcome) (calls : List RoutedCall) (said : Step)
       → old.work ≡ work.Awaits it → AwaitedTaken config outcome old calls said new
       → done ≡ came_to it (Ok outcome) ∷ (map Made calls ++ recorded_after said new.work)
       → phase ≡ phase_after said → IsSessionCall config old done phase new
@@ -77,26 +77,27 @@ pub data IsSessionCall (config : Configuration) (old : SessionState) (done : Lis
 -- something could not be recorded after the call.
 pub data IsLoss (config : Configuration) (old : SessionState) (done : List Interaction)
     (new : SessionState) : Type 0 where
-  went : (calls : List Call) (attempts : List Attempt) → WasDropped config old calls attempts new
+  went : (calls : List RoutedCall) (attempts : List Attempt)
+      → WasDropped config old calls attempts new
       → done ≡ map Made calls ++ marks_of attempts → IsLoss config old done new
-  took : (it : Asking) (outcome : Outcome) (calls : List Call) (attempts : List Attempt)
+  took : (it : SentKey) (outcome : Outcome) (calls : List RoutedCall) (attempts : List Attempt)
       → old.work ≡ work.Awaits it → AwaitedDropped config outcome old calls attempts new
       → done ≡ came_to it (Ok outcome) ∷ (map Made calls ++ marks_of attempts)
       → IsLoss config old done new
-  stopped : (it : Asking) (was_sent : Bool) → old.work ≡ work.Awaits it → new ≡ dropped old
+  stopped : (it : SentKey) (was_sent : Bool) → old.work ≡ work.Awaits it → new ≡ dropped old
       → done ≡ came_to it (Err (record { sent = was_sent })) ∷ Noted it.waiting.attempts ∷ []
       → IsLoss config old done new
-  went_unrecorded : (calls : List Call) (said : Step) (mid : SessionState)
+  went_unrecorded : (calls : List RoutedCall) (said : Step) (mid : SessionState)
       → WentOn config old calls said mid → IsToRecord said → new ≡ dropped mid
       → done ≡ map Made calls ++ left_after said → IsLoss config old done new
-  took_unrecorded : (it : Asking) (outcome : Outcome) (calls : List Call) (said : Step)
+  took_unrecorded : (it : SentKey) (outcome : Outcome) (calls : List RoutedCall) (said : Step)
       (mid : SessionState) → old.work ≡ work.Awaits it
       → AwaitedTaken config outcome old calls said mid → IsToRecord said → new ≡ dropped mid
       → done ≡ came_to it (Ok outcome) ∷ (map Made calls ++ left_after said)
       → IsLoss config old done new
 
 -- the keys of a client's request that was handed over
-pub record HasKeys (old : Client) (keys : KeysState) : Type 0 where
+pub record HasKeys (old : ClientState) (keys : KeysState) : Type 0 where
   pub going : old.phase ≡ Open
   pub at : old.session.work ≡ work.HandedOver
   pub are : old.keys ≡ Some keys
@@ -106,7 +107,8 @@ pub record HasKeys (old : Client) (keys : KeysState) : Type 0 where
 -- one key of a request may be under way, a request that was recorded may be handed over; then calls
 -- are made for its keys; and once these are complete the reply is taken, or memory ran out for one
 -- of them, or as the reply was taken.
-pub data IsAct (config : Configuration) (old : Client) (adds : Life) (new : Client) : Type 0 where
+pub data IsAct (config : Configuration) (old : ClientState) (adds : Life) (new : ClientState)
+    : Type 0 where
   fed : (piece : List ℕ) → old.phase ≡ Open → adds ≡ life piece [] []
       → new ≡ record old { session = fed_state old.session piece } → IsAct config old adds new
   wrote : (count : ℕ) → AreOutgoing old.session count

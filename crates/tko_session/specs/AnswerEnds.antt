@@ -9,7 +9,7 @@ use Rattle.tko_reply.specs.declared.parts.Parts.{Parts}
 use Rattle.tko_session.specs.declared.step.Progress.{Progress}
 use Rattle.tko_session.specs.Working.{Between}
 use Rattle.tko_session.specs.Events.{Effects, Rounded}
-use Rattle.tko_session.specs.SessionState.{Answered, AnsweredPart, SessionState, Snapshot, snapshot}
+use Rattle.tko_session.specs.SessionState.{AnsweredPart, HasAnswered, SessionState, Snapshot, snapshot}
 
 -- no request is being answered, and no round is owed
 pub record IsSettled (state : SessionState) : Type 0 where
@@ -29,7 +29,7 @@ KeepsBegun old new = NoneMarked old.parts.backend.probers → new.state.owes ≡
 -- how the answering of items ends: at this progress, or where memory ran out
 abbrev pub AnsweringEnds : {W : Type 0} → Effects W → Snapshot W → Result Progress NoMemory
     → Snapshot W → Type 0
-AnsweringEnds effects old (Ok progress) new = Answered effects progress old new
+AnsweringEnds effects old (Ok progress) new = HasAnswered effects progress old new
 AnsweringEnds effects old (Err fault) new = AnsweredPart effects old new
 
 -- how the answering of one item ends: the probers are as they were unless its round is owed

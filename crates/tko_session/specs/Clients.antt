@@ -1,7 +1,7 @@
 -- One client's whole life: the bytes that came from it, those that went to it, and what was done
 -- for it, whatever was done for others between.
 use Rattle.std.specs.Prelude.{◌≡◌, ◌⊎◌, ℕ, List, [], ◌∷◌, ◌++◌, Option, Some, None, flat_map, length}
-use Rattle.tko_text.specs.Reading.{Emits, Gives, Reading, fed, start}
+use Rattle.tko_text.specs.Reading.{Emits, Gives, Reading, fed, reading_start}
 use Rattle.tko_text.specs.declared.item.Item.{Item}
 use Rattle.tko_text.specs.declared.item.Item.TheVariants as item
 use Rattle.tko_text.specs.declared.request.Request.{Request}
@@ -11,9 +11,9 @@ use Rattle.tko_reply.specs.Interactions.{Interaction, Recorded}
 use Rattle.tko_reply.specs.TrailEvents.{Asked}
 use Rattle.tko_keys.specs.KeysState.{KeysState}
 use Rattle.tko_keys.specs.declared.plan.KeyPlan.{KeyPlan}
-use Rattle.tko_session.specs.SessionState.{EndsWith, GoesOn, SessionState, fresh, items_of, line_too_long, quit, requests_in, text_of}
-use Rattle.tko_session.specs.SoFar.{IsPendingAt, Pending}
-use Rattle.tko_session.specs.Turns.{IsRequestCutWithin, IsTurnWithin, Turn}
+use Rattle.tko_session.specs.SessionState.{ContinuesAfterAll, EndsWith, SessionState, fresh_session, items_of, line_too_long, quit, replies_text, requests_in}
+use Rattle.tko_session.specs.SoFar.{IsPendingAt, PendingRequest}
+use Rattle.tko_session.specs.Turns.{IsRequestCutWithin, IsTurnWithin, SessionTurn}
 use Rattle.tko_session.specs.Working.{Between}
 
 -- what came from a client, what went to it, and what was done for it, each in order
@@ -47,39 +47,39 @@ pub data ClientPhase : Type 0 where
 
 -- A client of a worker: how the keys of a request of it may be sent, how its session stands, the
 -- session, and the keys of its request, where that was handed over.
-pub record Client : Type 0 where
+pub record ClientState : Type 0 where
   pub plan : KeyPlan
   pub phase : ClientPhase
   pub session : SessionState
   pub keys : Option KeysState
 
 -- one that has just come
-abbrev pub new_client : KeyPlan → Client
-new_client plan = record { plan = plan; phase = Open; session = fresh; keys = None }
+abbrev pub new_client : KeyPlan → ClientState
+new_client plan = record { plan = plan; phase = Open; session = fresh_session; keys = None }
 
 -- items were answered, one after another, each by its own interactions
-abbrev pub AreTurns : KeyPlan → Configuration → List Turn → List Interaction → Type 0
+abbrev pub AreTurns : KeyPlan → Configuration → List SessionTurn → List Interaction → Type 0
 AreTurns plan config [] done = done ≡ []
 AreTurns plan config (turn ∷ turns) done = (first rest : List Interaction)
     × IsTurnWithin plan config turn first × AreTurns plan config turns rest × (done ≡ first ++ rest)
 
 -- the item of the request under way, if there is one
-abbrev pub items_under : Option Pending → List Item
+abbrev pub items_under : Option PendingRequest → List Item
 items_under None = []
 items_under (Some it) = item.Request it.request ∷ []
 
 -- what was done for it, first of all that it was recorded
-abbrev pub done_under : Option Pending → List Interaction
+abbrev pub done_under : Option PendingRequest → List Interaction
 done_under None = []
 done_under (Some it) = Recorded (Asked it.request) ∷ it.done
 
 -- the replies that are complete
-abbrev pub waiting_in : Option Pending → List ℕ → List ℕ
+abbrev pub waiting_in : Option PendingRequest → List ℕ → List ℕ
 waiting_in None outbox = outbox
 waiting_in (Some it) outbox = it.front
 
 -- no request is under way; or this one is, and its reply begins behind the complete ones
-abbrev pub HasPending : KeyPlan → Option KeysState → Configuration → Option Pending
+abbrev pub HasPending : KeyPlan → Option KeysState → Configuration → Option PendingRequest
     → SessionState → Type 0
 HasPending plan keys config None state = state.work ≡ Between
 HasPending plan keys config (Some it) state = (state.begin ≡ length it.front)
@@ -91,26 +91,26 @@ HasPending plan keys config (Some it) state = (state.begin ≡ length it.front)
 -- for the request under way.
 pub record IsClientOpen (plan : KeyPlan) (keys : Option KeysState) (config : Configuration)
     (it : Life) (state : SessionState) : Type 0 where
-  pub turns : List Turn
+  pub turns : List SessionTurn
   pub turned : List Interaction
-  pub under : Option Pending
+  pub under : Option PendingRequest
   pub each : AreTurns plan config turns turned
   pub at : HasPending plan keys config under state
-  pub goes_on : GoesOn (items_of turns)
-  pub gives : Gives (fed start it.bytes) (items_of turns ++ items_under under) state.reading
-  pub text : it.sent ++ waiting_in under state.outbox ≡ text_of turns
+  pub goes_on : ContinuesAfterAll (items_of turns)
+  pub gives : Gives (fed reading_start it.bytes) (items_of turns ++ items_under under) state.reading
+  pub text : it.sent ++ waiting_in under state.outbox ≡ replies_text turns
   pub are : it.done ≡ turned ++ done_under under
   pub requests : capped state.requests ≡ capped (requests_in (items_of turns))
 
 -- Its last item ended it: no request is under way, and what was done is what the turns did.
 pub record IsClientOver (plan : KeyPlan) (config : Configuration) (it : Life) (state : SessionState)
     : Type 0 where
-  pub turns : List Turn
+  pub turns : List SessionTurn
   pub each : AreTurns plan config turns it.done
   pub at : state.work ≡ Between
   pub ends : EndsWith line_too_long (items_of turns) ⊎ EndsWith quit (items_of turns)
-  pub gives : Gives (fed start it.bytes) (items_of turns) state.reading
-  pub text : it.sent ++ state.outbox ≡ text_of turns
+  pub gives : Gives (fed reading_start it.bytes) (items_of turns) state.reading
+  pub text : it.sent ++ state.outbox ≡ replies_text turns
   pub requests : capped state.requests ≡ capped (requests_in (items_of turns))
 
 -- memory ran out after these items: as the next one was read; or that is a request, for which this
@@ -125,16 +125,16 @@ pub data ShortAfter (plan : KeyPlan) (config : Configuration) (left : Reading)
 -- request that was dropped. Nothing of its reply went to the client or waits for it.
 pub record IsClientShort (plan : KeyPlan) (config : Configuration) (it : Life)
     (state : SessionState) : Type 0 where
-  pub turns : List Turn
+  pub turns : List SessionTurn
   pub turned : List Interaction
   pub left : Reading
   pub last : List Interaction
   pub each : AreTurns plan config turns turned
   pub at : state.work ≡ Between
-  pub goes_on : GoesOn (items_of turns)
-  pub gives : Gives (fed start it.bytes) (items_of turns) left
+  pub goes_on : ContinuesAfterAll (items_of turns)
+  pub gives : Gives (fed reading_start it.bytes) (items_of turns) left
   pub cut : ShortAfter plan config left last
-  pub text : it.sent ++ state.outbox ≡ text_of turns
+  pub text : it.sent ++ state.outbox ≡ replies_text turns
   pub are : it.done ≡ turned ++ last
   pub requests : capped state.requests ≡ capped (requests_in (items_of turns))
 
@@ -145,5 +145,5 @@ IsClientIn Over plan keys config it state = IsClientOver plan config it state
 IsClientIn Short plan keys config it state = IsClientShort plan config it state
 
 -- this is a client's life so far
-abbrev pub IsClient : Configuration → Life → Client → Type 0
+abbrev pub IsClient : Configuration → Life → ClientState → Type 0
 IsClient config it one = IsClientIn one.phase one.plan one.keys config it one.session

@@ -8,7 +8,7 @@ use Rattle.tko_session.specs.Turns.{IsRequestCut}
 use Rattle.tko_session.specs.Events.{Effects, IsEvent}
 use Rattle.tko_reply.specs.Ghosts.{PartsGhosts, parts_ghosts}
 use Rattle.tko_reply.specs.Interactions.{Performs}
-use Rattle.tko_session.specs.SessionState.{probed_by, sent_by}
+use Rattle.tko_session.specs.SessionState.{probe_counts, sent_by}
 
 -- the effects on parts that show this
 abbrev pub effects_of : {H L T C : Type 0} → PartsGhosts H L T C → Effects (Parts H L T C)
@@ -16,7 +16,7 @@ effects_of ghosts = record {
   step = IsEvent ghosts;
   cut = λ request. Performs ghosts (λ config. IsRequestCut config request);
   sent = sent_by ghosts.backend.sent;
-  probed = probed_by ghosts.backend.probed;
+  probed = probe_counts ghosts.backend.probed;
 }
 
 -- the effects on parts with this health, these links, these trails and this clock

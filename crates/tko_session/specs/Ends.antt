@@ -7,51 +7,53 @@ use Rattle.tko_session.specs.declared.step.Progress.{Progress}
 use Rattle.tko_session.specs.declared.step.Progress.TheVariants as progress
 use Rattle.tko_session.specs.declared.step.Report.{Report}
 use Rattle.tko_session.specs.Events.{idle_rounds}
-use Rattle.tko_session.specs.SessionState.{pause_of}
-use Rattle.tko_session.specs.Served.{Context, Delivered, DeliveredPart, Delivering, Delivery, Served, Serving, StoppedByLine, StoppedByMemory, StoppedByRead, StoppedByWrite}
+use Rattle.tko_session.specs.SessionState.{piece_progress}
+use Rattle.tko_session.specs.Served.{Context, Delivered, DeliveredPart, Delivering, DeliveryState, Served, Serving, StoppedByLine, StoppedByMemory, StoppedByRead, StoppedByWrite}
 
 module _ {O W : Type 0} (ghosts : Delivering O W) where
   -- everything was written, no round was run at an idle turn, and the writer did not fail
-  pub record AllDelivered (progress : Progress) (old new : Delivery O W) : Type 0 where
+  pub record AllDelivered (progress : Progress) (old new : DeliveryState O W) : Type 0 where
     pub delivered : Delivered ghosts progress old new
     pub idle : idle_rounds delivered.events ≡ 0
     pub calm : ghosts.outlet.failures new.writer ≡ ghosts.outlet.failures old.writer
 
   -- memory ran out, the writer did not fail, and all replies were written
-  pub record ShortOfMemory (old new : Delivery O W) : Type 0 where
+  pub record ShortOfMemory (old new : DeliveryState O W) : Type 0 where
     pub part : DeliveredPart ghosts 0 old new
     pub whole : part.unwritten ≡ []
     pub calm : ghosts.outlet.failures new.writer ≡ ghosts.outlet.failures old.writer
 
   -- the writer failed, after `count` bytes of the session, and some of the replies stay unwritten
-  pub record WriterFailed (old : Delivery O W) (count : ℕ) (new : Delivery O W) : Type 0 where
+  pub record WriterFailed (old : DeliveryState O W) (count : ℕ) (new : DeliveryState O W)
+      : Type 0 where
     pub part : DeliveredPart ghosts 0 old new
     pub cut : part.unwritten ≢ []
     pub counted : count ≡ capped new.written
     pub failed : ghosts.outlet.failures old.writer < ghosts.outlet.failures new.writer
 
   -- why the delivery of some items stops
-  abbrev pub DeliveryStops : Delivery O W → SessionFault → Delivery O W → Type 0
+  abbrev pub DeliveryStops : DeliveryState O W → SessionFault → DeliveryState O W → Type 0
   DeliveryStops old Read new = ⊥
   DeliveryStops old (Write count) new = WriterFailed old count new
   DeliveryStops old LineTooLong new = ⊥
   DeliveryStops old Memory new = ShortOfMemory old new
 
   -- how the delivery of some items ends
-  abbrev pub DeliveryEnds : Delivery O W → Result Progress SessionFault → Delivery O W → Type 0
+  abbrev pub DeliveryEnds : DeliveryState O W → Result Progress SessionFault
+      → DeliveryState O W → Type 0
   DeliveryEnds old (Ok progress) new = AllDelivered progress old new
   DeliveryEnds old (Err fault) new = DeliveryStops old fault new
 
   -- why the session stops at a piece
-  abbrev pub PieceStops : Delivery O W → SessionFault → Delivery O W → Type 0
+  abbrev pub PieceStops : DeliveryState O W → SessionFault → DeliveryState O W → Type 0
   PieceStops old Read new = ⊥
   PieceStops old (Write count) new = WriterFailed old count new
   PieceStops old LineTooLong new = AllDelivered progress.LineTooLong old new
   PieceStops old Memory new = ShortOfMemory old new
 
   -- how the delivery of all items of a piece ends, where `quit` ended the session or did not
-  abbrev pub PieceEnds : Delivery O W → Result Bool SessionFault → Delivery O W → Type 0
-  PieceEnds old (Ok quit) new = AllDelivered (pause_of quit) old new
+  abbrev pub PieceEnds : DeliveryState O W → Result Bool SessionFault → DeliveryState O W → Type 0
+  PieceEnds old (Ok quit) new = AllDelivered (piece_progress quit) old new
   PieceEnds old (Err fault) new = PieceStops old fault new
 
 module _ {I O W : Type 0} (ghosts : Serving I O W) where

@@ -4,6 +4,6 @@ use Rattle.tko_text.specs.declared.reader.FeedFault.TheVariants as feed
 use Rattle.tko_session.specs.declared.fault.SessionFault.{SessionFault}
 use Rattle.tko_session.specs.declared.fault.SessionFault.TheVariants as session
 
-abbrev pub fault_of : FeedFault → SessionFault
-fault_of feed.Failed = session.LineTooLong
-fault_of feed.Memory = session.Memory
+abbrev pub session_fault_of : FeedFault → SessionFault
+session_fault_of feed.Failed = session.LineTooLong
+session_fault_of feed.Memory = session.Memory

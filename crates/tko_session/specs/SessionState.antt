@@ -7,20 +7,20 @@ use Rattle.tko_text.specs.declared.fault.TextFault.{TextFault}
 use Rattle.tko_text.specs.declared.fault.TextFault.TheVariants.{LineTooLong}
 use Rattle.tko_text.specs.declared.request.Request.{Request}
 use Rattle.tko_text.specs.declared.request.Request.TheVariants.{Quit}
-use Rattle.tko_text.specs.Reading.{Reading, Never, Emits, Gives, NeedsMore, start, fed}
+use Rattle.tko_text.specs.Reading.{Reading, Never, Emits, Gives, NeedsMore, reading_start, fed}
 use Rattle.tko_route.specs.declared.attempt.Attempt.{Attempt}
 use Rattle.tko_reply.specs.declared.parts.Parts.{Parts}
 use Rattle.tko_session.specs.declared.step.Progress.{Progress}
 use Rattle.tko_session.specs.declared.step.Progress.TheVariants as progress
 use Rattle.tko_session.specs.Working.{Work}
 use Rattle.tko_session.specs.Working as work
-use Rattle.tko_session.specs.Events.{Effects, Event, NoneAtWork, NoneShort, idle_rounds, owed_after, turns_of, visits_of}
+use Rattle.tko_session.specs.Events.{Effects, NoneAtWork, NoneShort, SessionEvent, idle_rounds, owed_after, turns_of, visits_of}
 use Rattle.tko_io.specs.Io.{capped}
 use Rattle.tko_reply.specs.Replies.{RoutedKey, reply_bound, sends_to, trails_in}
 use Rattle.tko_prober.specs.Round.{probes_in}
 use Rattle.tko_reply.specs.Ghosts.{PartsGhosts}
 use Rattle.tko_reply.specs.Interactions.{Performs}
-use Rattle.tko_session.specs.Turns.{IsTurn, Turn, is_request}
+use Rattle.tko_session.specs.Turns.{IsSessionTurn, SessionTurn, is_request}
 
 -- how far the input was read, the replies that wait to be written, the number of requests, and
 -- whether the round after the last request is still to be run; and, while a request is answered,
@@ -43,9 +43,9 @@ abbrev pub snapshot : {W : Type 0} → SessionState → W → Snapshot W
 snapshot state parts = record { state = state; parts = parts }
 
 -- a session that has read nothing
-abbrev pub fresh : SessionState
-fresh = record {
-  reading = start;
+abbrev pub fresh_session : SessionState
+fresh_session = record {
+  reading = reading_start;
   outbox = [];
   requests = 0;
   owes = false;
@@ -66,14 +66,14 @@ line_too_long = item.Fault LineTooLong
 abbrev pub quit : Item
 quit = item.Request Quit
 
-abbrev pub items_of : List Turn → List Item
+abbrev pub items_of : List SessionTurn → List Item
 items_of turns = map (λ turn. turn.item) turns
 
 -- the replies, one after another
-abbrev pub text_of : List Turn → List ℕ
-text_of turns = flat_map (λ turn. turn.text) turns
+abbrev pub replies_text : List SessionTurn → List ℕ
+replies_text turns = flat_map (λ turn. turn.text) turns
 
-abbrev pub trails_of : List Turn → List (List Attempt)
+abbrev pub trails_of : List SessionTurn → List (List Attempt)
 trails_of turns = flat_map (λ turn. trails_in turn.routed) turns
 
 -- how many items are requests
@@ -86,28 +86,28 @@ pub record Continues (it : Item) : Type 0 where
   pub asked : it ≢ quit
 
 -- the session goes on after each of these items
-abbrev pub GoesOn : List Item → Type 0
-GoesOn items = All Continues items
+abbrev pub ContinuesAfterAll : List Item → Type 0
+ContinuesAfterAll items = All Continues items
 
 -- the last item is this one, and the session goes on after each of the others
 pub record EndsWith (last : Item) (items : List Item) : Type 0 where
   pub before : List Item
   pub parts : items ≡ before ++ last ∷ []
-  pub goes_on : GoesOn before
+  pub goes_on : ContinuesAfterAll before
 
 -- no item comes after one that ends the session
 pub record InSession (items : List Item) : Type 0 where
   pub before : List Item
   pub last : List Item
   pub parts : items ≡ before ++ last
-  pub goes_on : GoesOn before
+  pub goes_on : ContinuesAfterAll before
   pub one : length last ≤ 1
 
 -- how a session stands after these items: there may be more, all that are decided were answered, or
 -- the last one ended the session
 abbrev pub ProgressIs : Progress → List Item → Reading → Type 0
-ProgressIs progress.More items reading = GoesOn items
-ProgressIs progress.NeedsInput items reading = GoesOn items × NeedsMore reading
+ProgressIs progress.More items reading = ContinuesAfterAll items
+ProgressIs progress.NeedsInput items reading = ContinuesAfterAll items × NeedsMore reading
 ProgressIs progress.LineTooLong items reading =
     EndsWith line_too_long items × (reading.after ≡ Never)
 ProgressIs progress.Quit items reading = EndsWith quit items
@@ -118,7 +118,7 @@ progress_after LineTooLong = progress.LineTooLong
 progress_after _ = progress.More
 
 -- after `waiting` bytes, each of these turns begins while fewer bytes than the bound wait
-abbrev pub BeginBelowBound : ℕ → List Turn → Type 0
+abbrev pub BeginBelowBound : ℕ → List SessionTurn → Type 0
 BeginBelowBound waiting [] = Unit {0}
 BeginBelowBound waiting (turn ∷ turns) =
     (waiting < reply_bound) × BeginBelowBound (waiting + length turn.text) turns
@@ -129,17 +129,17 @@ progress_of Quit = progress.Quit
 progress_of _ = progress.More
 
 -- the progress after all items of a piece, where `quit` ended the session or did not
-abbrev pub pause_of : Bool → Progress
-pause_of true = progress.Quit
-pause_of false = progress.NeedsInput
+abbrev pub piece_progress : Bool → Progress
+piece_progress true = progress.Quit
+piece_progress false = progress.NeedsInput
 
 -- how often each server was sent to
 abbrev pub sent_by : {H L T C : Type 0} → (L → ℕ → ℕ) → Parts H L T C → ℕ → ℕ
 sent_by sent parts server = sent parts.backend.links server
 
 -- how often each server was probed
-abbrev pub probed_by : {H L T C : Type 0} → (L → ℕ → ℕ) → Parts H L T C → ℕ → ℕ
-probed_by probed parts server = probed parts.backend.links server
+abbrev pub probe_counts : {H L T C : Type 0} → (L → ℕ → ℕ) → Parts H L T C → ℕ → ℕ
+probe_counts probed parts server = probed parts.backend.links server
 
 -- a request was recorded and answered: one more, its reply is at the end of the outbox, and its
 -- round is owed
@@ -148,7 +148,7 @@ pub record Replied {H L T C : Type 0} (ghosts : PartsGhosts H L T C)
     : Type 0 where
   pub routed : List RoutedKey
   pub text : List ℕ
-  pub becomes : Performs ghosts (λ config. IsTurn config
+  pub becomes : Performs ghosts (λ config. IsSessionTurn config
       (record { item = item.Request request; routed = routed; text = text })) old.parts new.parts
   pub reading : new.state.reading ≡ old.state.reading
   pub outbox : new.state.outbox ≡ old.state.outbox ++ text
@@ -157,11 +157,11 @@ pub record Replied {H L T C : Type 0} (ghosts : PartsGhosts H L T C)
 
 -- where answering stops: after these events, with this left to read, and with these parts
 pub record StopPoint (W : Type 0) : Type 0 where
-  pub events : List Event
+  pub events : List SessionEvent
   pub left : Reading
   pub parts : W
 
-abbrev pub stop_point : {W : Type 0} → List Event → Reading → W → StopPoint W
+abbrev pub stop_point : {W : Type 0} → List SessionEvent → Reading → W → StopPoint W
 stop_point events left parts = record { events = events; left = left; parts = parts }
 
 -- what was done after the last of these events where memory ran out: nothing; or the next item is a
@@ -169,21 +169,22 @@ stop_point events left parts = record { events = events; left = left; parts = pa
 pub data IsBehind {W : Type 0} (cut : Request → W → W → Type 0) (stop : StopPoint W)
     (new : Snapshot W) : Type 0 where
   no_more : new.parts ≡ stop.parts → new.state.owes ≡ false → IsBehind cut stop new
-  cut_short : (it : Request) (to : Reading) → GoesOn (items_of (turns_of stop.events))
+  cut_short : (it : Request) (to : Reading) → ContinuesAfterAll (items_of (turns_of stop.events))
       → Emits stop.left (item.Request it) to → cut it stop.parts new.parts
       → new.state.owes ≡ true → IsBehind cut stop new
 
 module _ {W : Type 0} (effects : Effects W) where
   -- the counts of sends rose by the sends in the trails of these events, the counts of probes by
   -- the probes in their rounds, and by nothing else
-  pub record CountsRise (old : W) (events : List Event) (new : W) : Type 0 where
+  pub record CountsRise (old : W) (events : List SessionEvent) (new : W) : Type 0 where
     pub sends : (server : ℕ) → effects.sent new server
         ≡ effects.sent old server + sends_to server (trails_of (turns_of events))
     pub probes : (server : ℕ) → effects.probed new server
         ≡ effects.probed old server + probes_in server (visits_of events)
 
   -- these events lead from the one state to the other, and change what they work on
-  pub record Turned (old : Snapshot W) (events : List Event) (new : Snapshot W) : Type 0 where
+  pub record LeadsByEvents (old : Snapshot W) (events : List SessionEvent) (new : Snapshot W)
+      : Type 0 where
     pub gives : Gives old.state.reading (items_of (turns_of events)) new.state.reading
     pub gains : Gains effects.step old.parts events new.parts
     pub order : owed_after old.state.owes events ≡ Some new.state.owes
@@ -195,18 +196,18 @@ module _ {W : Type 0} (effects : Effects W) where
   -- some events did, none of them at an idle turn, and the text of the replies was added to the
   -- outbox, each while there was room; no prober was at work in a round, so that no reply waits for
   -- one that takes long
-  pub record Answered (progress : Progress) (old new : Snapshot W) : Type 0 where
-    pub events : List Event
-    pub turned : Turned old events new
+  pub record HasAnswered (progress : Progress) (old new : Snapshot W) : Type 0 where
+    pub events : List SessionEvent
+    pub turned : LeadsByEvents old events new
     pub idles : idle_rounds events ≡ 0
-    pub outbox : new.state.outbox ≡ old.state.outbox ++ text_of (turns_of events)
+    pub outbox : new.state.outbox ≡ old.state.outbox ++ replies_text (turns_of events)
     pub begin : BeginBelowBound (length old.state.outbox) (turns_of events)
     pub at_once : NoneAtWork events
     pub progress_is : ProgressIs progress (items_of (turns_of events)) new.state.reading
 
   -- memory ran out after such events
   pub record AnsweredPart (old new : Snapshot W) : Type 0 where
-    pub events : List Event
+    pub events : List SessionEvent
     pub left : Reading
     pub reached : W
     pub gives : Gives old.state.reading (items_of (turns_of events)) left
@@ -215,7 +216,7 @@ module _ {W : Type 0} (effects : Effects W) where
     pub order : owed_after old.state.owes events ≡ Some false
     pub idles : idle_rounds events ≡ 0
     pub in_session : InSession (items_of (turns_of events))
-    pub outbox : new.state.outbox ≡ old.state.outbox ++ text_of (turns_of events)
+    pub outbox : new.state.outbox ≡ old.state.outbox ++ replies_text (turns_of events)
     pub begin : BeginBelowBound (length old.state.outbox) (turns_of events)
     pub at_once : NoneAtWork events
     pub behind : IsBehind effects.cut (stop_point events left reached) new

@@ -15,7 +15,7 @@ use Rattle.tko_keys.specs.AtOnce.{AnswersAtOnce, IsCutAtOnce}
 use Rattle.tko_keys.specs.declared.plan.KeyPlan.{KeyPlan}
 
 -- an item, the keys that were routed for it, and the text of its reply
-pub record Turn : Type 0 where
+pub record SessionTurn : Type 0 where
   pub item : Item
   pub routed : List RoutedKey
   pub text : List ℕ
@@ -25,13 +25,14 @@ is_request (item.Request request) = true
 is_request (item.Fault fault) = false
 
 -- a fault gives its text, and nothing is done; a request is recorded, and then answered
-pub data IsTurn (config : Configuration) (turn : Turn) (done : List Interaction) : Type 0 where
+pub data IsSessionTurn (config : Configuration) (turn : SessionTurn) (done : List Interaction)
+    : Type 0 where
   refused : (fault : TextFault) → turn.item ≡ item.Fault fault → turn.routed ≡ []
-      → turn.text ≡ fault_text fault → done ≡ [] → IsTurn config turn done
+      → turn.text ≡ fault_text fault → done ≡ [] → IsSessionTurn config turn done
   answered : (request : Request) (then : List Interaction) → turn.item ≡ item.Request request
       → done ≡ Recorded (Asked request) ∷ then
       → Answers config request turn.routed turn.text then
-      → IsTurn config turn done
+      → IsSessionTurn config turn done
 
 -- a request was cut short: memory ran out while it was recorded, or in its answer
 pub data IsRequestCut (config : Configuration) (request : Request) (done : List Interaction)
@@ -42,9 +43,9 @@ pub data IsRequestCut (config : Configuration) (request : Request) (done : List 
 
 -- what becomes of an item where the keys of a request may be sent by this plan: they are asked for
 -- one after another, as above; or more of them at a time
-pub data IsTurnWithin (plan : KeyPlan) (config : Configuration) (turn : Turn)
+pub data IsTurnWithin (plan : KeyPlan) (config : Configuration) (turn : SessionTurn)
     (done : List Interaction) : Type 0 where
-  in_turn : IsTurn config turn done → IsTurnWithin plan config turn done
+  in_turn : IsSessionTurn config turn done → IsTurnWithin plan config turn done
   at_once : (request : Request) (then : List Interaction) → 1 < plan.most
       → turn.item ≡ item.Request request → done ≡ Recorded (Asked request) ∷ then
       → AnswersAtOnce plan config request turn.routed turn.text then

@@ -1,10 +1,10 @@
 -- What a session is at, from the key of the request that it answers.
 use Rattle.std.specs.Prelude.{List, [], Option, Some, None}
 use Rattle.tko_route.specs.declared.attempt.Attempt.{Attempt}
-use Rattle.tko_reply.specs.Standing.{Asking, asking}
+use Rattle.tko_reply.specs.Standing.{SentKey, asking}
 use Rattle.tko_reply.specs.declared.asking.OneKey.{OneKey}
-use Rattle.tko_session.specs.declared.session.AtWork.{AtWork}
-use Rattle.tko_session.specs.declared.session.AtWork.TheVariants as at
+use Rattle.tko_session.specs.declared.session.SessionWork.{SessionWork}
+use Rattle.tko_session.specs.declared.session.SessionWork.TheVariants as at
 use Rattle.tko_session.specs.declared.session.KeyWait.{KeyWait}
 use Rattle.tko_session.specs.declared.session.KeyWait.TheVariants as wait
 
@@ -14,7 +14,7 @@ use Rattle.tko_session.specs.declared.session.KeyWait.TheVariants as wait
 pub data Work : Type 0 where
   Between : Work
   Read : OneKey → Work
-  Awaits : Asking → Work
+  Awaits : SentKey → Work
   Ended : OneKey → Work
   HandedOver : Work
 
@@ -24,7 +24,7 @@ key_work one wait.Read = Read one
 key_work one (wait.Sent waiting) = Awaits (asking waiting one)
 key_work one wait.Tried = Ended one
 
-abbrev pub work_at : AtWork → Work
+abbrev pub work_at : SessionWork → Work
 work_at at.Between = Between
 work_at (at.Key one) = key_work one.key one.wait
 work_at at.HandedOver = HandedOver
@@ -38,12 +38,12 @@ key_in (Ended one) = Some one
 key_in HandedOver = None
 
 -- the request that was read
-abbrev pub read_in : Work → Option OneKey
-read_in Between = None
-read_in (Read one) = Some one
-read_in (Awaits it) = None
-read_in (Ended one) = None
-read_in HandedOver = None
+abbrev pub request_read_in : Work → Option OneKey
+request_read_in Between = None
+request_read_in (Read one) = Some one
+request_read_in (Awaits it) = None
+request_read_in (Ended one) = None
+request_read_in HandedOver = None
 
 -- the key whose attempts ended
 abbrev pub ended_in : Work → Option OneKey

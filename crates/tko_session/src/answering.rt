@@ -11,7 +11,7 @@ ghost use Rattle.tko_reply.specs.declared.asking.OneKey.{OneKey};
 ghost use Rattle.tko_session.specs.Effects.{effects};
 ghost use Rattle.tko_session.specs.AnswerEnds.{AnsweringEnds, DriveEnds, IsRun, IsSettled, KeepsBegun, MayRunRound, OwesWhereBusy};
 ghost use Rattle.tko_reply.specs.declared.parts.Parts.{Parts};
-ghost use Rattle.tko_session.specs.SessionState.{Answered, Snapshot, snapshot};
+ghost use Rattle.tko_session.specs.SessionState.{HasAnswered, Snapshot, snapshot};
 ghost use Rattle.tko_session.specs.Working.{Between, key_in};
 
 use crate::observing::{observe_attempts, observe_drop, observe_request, observe_trail};
@@ -97,7 +97,7 @@ fn end_item<R: IoRuntime, H: Health, L: Links, T: Trails, C: Clock>(
 ) -> Result<Progress, NoMemory>
     requires reach { Reaches H.servers L.servers parts.old }
     ensures ends { (old : Snapshot (Parts H L T C))
-        → Answered (effects H.Health L.Links T.Trails C.Clock)
+        → HasAnswered (effects H.Health L.Links T.Trails C.Clock)
         progress old (snapshot session.old parts.old)
         → AnsweringEnds (effects H.Health L.Links T.Trails C.Clock)
         old result (snapshot session.new parts.new) }
@@ -165,7 +165,7 @@ fn send<R: IoRuntime, H: Health, L: Links, T: Trails, C: Clock>(
     parts: &mut Parts<H, L, T, C>,
     told: &mut usize,
     clear: Clear,
-) -> Result<Outcome, tko_links::NoMemory>
+) -> Result<Outcome, tko_links::ExchangeNoMemory>
     requires lends { IsSome (key_in session.now.work) }
     requires within { clear < L.servers parts.old.backend.links }
     requires reach { Reaches H.servers L.servers parts.old }

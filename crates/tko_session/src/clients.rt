@@ -10,9 +10,9 @@ ghost use Rattle.tko_reply.specs.Interactions.{Interaction};
 ghost use Rattle.tko_reply.specs.declared.parts.Parts.{Parts};
 ghost use Rattle.tko_keys.specs.declared.plan.KeyPlan.{KeyPlan};
 ghost use Rattle.tko_session.specs.Acts.{IsAct};
-ghost use Rattle.tko_session.specs.Clients.{Client, IsClient, Life, lived, new_client, no_life};
+ghost use Rattle.tko_session.specs.Clients.{ClientState, IsClient, Life, lived, new_client, no_life};
 ghost use Rattle.tko_session.specs.ManyClients.{ActsOn, AreNew, AreServed};
-ghost use Rattle.tko_session.specs.Turns.{IsRequestCut, IsRequestCutWithin, IsTurn, IsTurnWithin, Turn};
+ghost use Rattle.tko_session.specs.Turns.{IsRequestCut, IsRequestCutWithin, IsSessionTurn, IsTurnWithin, SessionTurn};
 
 use crate::Trails;
 use tko_io::Clock;
@@ -26,7 +26,7 @@ pub fn client_begins()
 
 /// Each act for a client goes on with its life, and adds to it what was done.
 pub fn client_acts()
-    ensures { (config : _) (it : Life) (old : Client) (adds : Life) (new : Client)
+    ensures { (config : _) (it : Life) (old : ClientState) (adds : Life) (new : ClientState)
         → IsClient config it old → IsAct config old adds new
         → IsClient config (lived it adds) new }
 {}
@@ -34,9 +34,9 @@ pub fn client_acts()
 /// Where at most one key of a request is under way at a time, the keys are asked for one after
 /// another.
 pub fn keys_in_turn()
-    ensures turns { (plan : KeyPlan) (config : Configuration) (turn : Turn)
+    ensures turns { (plan : KeyPlan) (config : Configuration) (turn : SessionTurn)
         (done : List Interaction) → plan.most ≡ 1
-        → IsTurnWithin plan config turn done → IsTurn config turn done }
+        → IsTurnWithin plan config turn done → IsSessionTurn config turn done }
     ensures cuts { (plan : KeyPlan) (config : Configuration) (request : Request)
         (done : List Interaction) → plan.most ≡ 1
         → IsRequestCutWithin plan config request done → IsRequestCut config request done }
@@ -44,9 +44,9 @@ pub fn keys_in_turn()
 
 /// Many clients are served on one thread over the same parts, and each has a life of its own acts.
 pub fn served<H: Health, L: Links, T: Trails, C: Clock>()
-    ensures { (awaited : Client → List ℕ) (plan : KeyPlan) (old : Parts H L T C)
-        (acts : List (Tagged (RosterAct Client Life)))
-        (new : RosterState Client (Parts H L T C)) → AreNew plan acts
+    ensures { (awaited : ClientState → List ℕ) (plan : KeyPlan) (old : Parts H L T C)
+        (acts : List (Tagged (RosterAct ClientState Life)))
+        (new : RosterState ClientState (Parts H L T C)) → AreNew plan acts
         → Gains (IsRosterStep
         (ActsOn (parts_ghosts H.Health L.Links T.Trails C.Clock) old.config) awaited)
         (nobody old) acts new

@@ -113,15 +113,19 @@ impl Links for Short {
         rt: &R,
         clear: Clear,
         request: &Request,
-    ) -> Result<Outcome, tko_links::NoMemory> {
+    ) -> Result<Outcome, tko_links::ExchangeNoMemory> {
         let server = clear.server();
         if self.is_short && server == 1 && self.inner.sends(server) < u64::MAX {
-            return Err(tko_links::NoMemory { sent: false });
+            return Err(tko_links::ExchangeNoMemory { sent: false });
         }
         self.inner.exchange(rt, clear, request)
     }
 
-    fn probe<R: IoRuntime>(&mut self, rt: &R, duty: Duty) -> Result<Outcome, tko_links::NoMemory> {
+    fn probe<R: IoRuntime>(
+        &mut self,
+        rt: &R,
+        duty: Duty,
+    ) -> Result<Outcome, tko_links::ExchangeNoMemory> {
         self.inner.probe(rt, duty)
     }
 

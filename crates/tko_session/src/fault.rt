@@ -43,9 +43,9 @@ impl From<NoMemory> for SessionFault {
 
 impl From<FeedFault> for SessionFault {
     ghost use Rattle.std.specs.Prelude.{◌≡◌};
-    ghost use Rattle.tko_session.specs.Faults.{fault_of};
+    ghost use Rattle.tko_session.specs.Faults.{session_fault_of};
 
-    ghost from_gives = { λ fault e. e ≡ fault_of fault };
+    ghost from_gives = { λ fault e. e ≡ session_fault_of fault };
 
     fn from(fault: FeedFault) -> SessionFault {
         match fault {

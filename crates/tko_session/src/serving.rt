@@ -10,7 +10,7 @@ ghost use Rattle.tko_session.specs.AnswerEnds.{IsSettled};
 ghost use Rattle.tko_session.specs.Ends.{DeliveryEnds, PieceEnds, SessionEnds};
 ghost use Rattle.tko_session.specs.Served.{context, delivering, delivery, serving};
 ghost use Rattle.tko_reply.specs.Answers.{Reaches};
-ghost use Rattle.tko_session.specs.SessionState.{fed_state, fresh};
+ghost use Rattle.tko_session.specs.SessionState.{fed_state, fresh_session};
 ghost use Rattle.tko_session.specs.Working.{Between};
 
 use crate::answering::{answer, run_owed_round};
@@ -55,7 +55,7 @@ fn serve_pieces<R: IoRuntime, I: Inlet, O: Outlet, H: Health, L: Links, T: Trail
     buffer: &mut [u8],
 ) -> Result<Report, SessionFault>
     requires reach { Reaches H.servers L.servers parts.old }
-    requires begins { session.old ≡ fresh }
+    requires begins { session.old ≡ fresh_session }
     requires room { 0 < length buffer.old }
     ensures ends { SessionEnds
         (serving I.Inlet O.Outlet (effects H.Health L.Links T.Trails C.Clock))

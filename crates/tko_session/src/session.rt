@@ -4,11 +4,11 @@
 ghost use Rattle.std.specs.Prelude.{◌≡◌, ◌↔◌, IfErr, IfOk, IsErrOf, IsSome, OnErr, OnOk, Some, length};
 ghost use Rattle.tko_text.specs.Reading.{Never};
 ghost use Rattle.tko_route.specs.Routing.{GoesOn};
-ghost use Rattle.tko_reply.specs.Standing.{Asking};
+ghost use Rattle.tko_reply.specs.Standing.{SentKey};
 ghost use Rattle.tko_reply.specs.declared.asking.OneKey.{OneKey};
-ghost use Rattle.tko_session.specs.Driven.{AwaitedDropped, AwaitedTaken, IsAwaiting, IsReady, MayGoOn, WasDropped, WentOn, dropped};
+ghost use Rattle.tko_session.specs.Driven.{AwaitedDropped, AwaitedTaken, IsAwaiting, IsSessionReady, MayGoOn, WasDropped, WentOn, dropped};
 ghost use Rattle.tko_session.specs.Working.{Awaits, key_in};
-ghost use Rattle.tko_session.specs.SessionState.{fed_state, fresh};
+ghost use Rattle.tko_session.specs.SessionState.{fed_state, fresh_session};
 
 use crate::step::Step;
 use std::alloc::Global;
@@ -37,7 +37,7 @@ pub struct Session {
     requests: u64,
     owes: bool,
     /// The request that is being answered, by the session or by its driver.
-    work: AtWork,
+    work: SessionWork,
     /// Where the reply to the request begins in the outbox.
     begin: usize,
     /// The targets of the key that is asked for, and the room for those of the next one.
@@ -46,7 +46,7 @@ pub struct Session {
 
 /// What a session is at.
 #[derive(Drop)]
-enum AtWork {
+enum SessionWork {
     /// No request is being answered.
     Between,
     /// The session answers a request.
@@ -94,14 +94,14 @@ impl Model for Session {
 
 impl Session {
     pub fn new(alloc: Global) -> Session
-        ensures { result ≡ fresh }
+        ensures { result ≡ fresh_session }
     {
         Session {
             reader: Reader::new(alloc),
             outbox: Outbox::new(alloc),
             requests: 0,
             owes: false,
-            work: AtWork::Between,
+            work: SessionWork::Between,
             begin: 0,
             targets: Vec::new(alloc),
         }
@@ -127,23 +127,23 @@ impl Session {
         config: &Config,
     ) -> Result<Step, Dropped>
         requires servers { H.servers health.old ≡ length config.now.addresses }
-        requires ready { IsReady config.now self.old }
+        requires ready { IsSessionReady config.now self.old }
         requires may { MayGoOn self.old.work }
         ensures ok { IfOk result (λ step. GoesOn H.steps health.old
             (λ calls. WentOn config.now self.old calls step self.new) health.new) }
         ensures err { IfErr result (λ attempts. GoesOn H.steps health.old
             (λ calls. WasDropped config.now self.old calls attempts self.new) health.new) }
-        ensures ready { OnOk result (IsReady config.now self.new) }
+        ensures ready { OnOk result (IsSessionReady config.now self.new) }
         ensures servers { H.servers health.new ≡ H.servers health.old }
     {
         match &self.work {
-            AtWork::Between => Ok(self.next_item()?),
-            AtWork::Key(at) => match &at.wait {
+            SessionWork::Between => Ok(self.next_item()?),
+            SessionWork::Key(at) => match &at.wait {
                 KeyWait::Read => self.begin_request(rt, alloc, health, config),
                 KeyWait::Tried => self.go_on(rt, alloc, health, config),
                 KeyWait::Sent(_) => unreachable!(),
             },
-            AtWork::HandedOver => unreachable!(),
+            SessionWork::HandedOver => unreachable!(),
         }
     }
 
@@ -153,8 +153,8 @@ impl Session {
         ensures { (one : OneKey) → key_in self.now.work ≡ Some one → result.now ≡ one.request }
     {
         match &self.work {
-            AtWork::Key(at) => at.key.request(),
-            AtWork::Between | AtWork::HandedOver => unreachable!(),
+            SessionWork::Key(at) => at.key.request(),
+            SessionWork::Between | SessionWork::HandedOver => unreachable!(),
         }
     }
 
@@ -167,17 +167,17 @@ impl Session {
         outcome: Outcome,
     ) -> Result<Step, Dropped>
         requires servers { H.servers health.old ≡ length config.now.addresses }
-        requires ready { IsReady config.now self.old }
+        requires ready { IsSessionReady config.now self.old }
         requires awaiting { IsAwaiting self.old.work }
         ensures ok { IfOk result (λ step. GoesOn H.steps health.old
             (λ calls. AwaitedTaken config.now outcome self.old calls step self.new) health.new) }
         ensures err { IfErr result (λ attempts. GoesOn H.steps health.old
             (λ calls. AwaitedDropped config.now outcome self.old calls attempts self.new)
             health.new) }
-        ensures ready { OnOk result (IsReady config.now self.new) }
+        ensures ready { OnOk result (IsSessionReady config.now self.new) }
         ensures servers { H.servers health.new ≡ H.servers health.old }
     {
-        let AtWork::Key(KeyAtWork { key, wait }) = &mut self.work else {
+        let SessionWork::Key(KeyAtWork { key, wait }) = &mut self.work else {
             unreachable!();
         };
         let KeyWait::Sent(sent) = replace(wait, KeyWait::Tried) else {
@@ -192,13 +192,13 @@ impl Session {
     }
 
     /// Drops the request where memory ran out at the send.
-    pub fn stop(&mut self, fault: tko_links::NoMemory) -> Dropped
+    pub fn stop(&mut self, fault: tko_links::ExchangeNoMemory) -> Dropped
         requires awaiting { IsAwaiting self.old.work }
         ensures dropped { self.new ≡ dropped self.old }
-        ensures attempts { (it : Asking) → self.old.work ≡ Awaits it
+        ensures attempts { (it : SentKey) → self.old.work ≡ Awaits it
             → result ≡ it.waiting.attempts }
     {
-        let AtWork::Key(KeyAtWork { key: _, wait }) = &mut self.work else {
+        let SessionWork::Key(KeyAtWork { key: _, wait }) = &mut self.work else {
             unreachable!();
         };
         let KeyWait::Sent(sent) = replace(wait, KeyWait::Tried) else {
@@ -212,7 +212,7 @@ impl Session {
     pub fn drop_request(&mut self)
         ensures { self.new ≡ dropped self.old }
     {
-        self.work = AtWork::Between;
+        self.work = SessionWork::Between;
         self.outbox.truncate(self.begin);
     }
 }

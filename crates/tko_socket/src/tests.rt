@@ -11,20 +11,20 @@ use tko_port::{Port, Read};
 
 /// A poll, a connection at it, and the other side of that.
 #[derive(Drop)]
-struct Ends {
+struct SocketEnds {
     poll: Poll,
     socket: Socket,
     other: TcpStream,
 }
 
 /// Connects through the loopback.
-fn both<N: Net<Listener = TcpListener, Stream = TcpStream>>(net: &N) -> Result<Ends, Fail> {
+fn both<N: Net<Listener = TcpListener, Stream = TcpStream>>(net: &N) -> Result<SocketEnds, Fail> {
     let listener = TcpListener::bind(net, SocketAddr::from((Ipv4Addr::LOCALHOST, 0)))?;
     let other = TcpStream::connect(net, listener.local_addr()?)?;
     let (stream, _) = listener.accept()?;
     let poll = Poll::new(net)?;
     let socket = Socket::accepted(poll.registry(), Token(7), stream)?;
-    Ok(Ends {
+    Ok(SocketEnds {
         poll,
         socket,
         other,

@@ -14,7 +14,7 @@ use Rattle.tko_steps.specs.declared.phase.Phase.TheVariants.{Loosening}
 use Rattle.tko_steps.specs.declared.phase.Slots.{Slots}
 use Rattle.tko_steps.specs.declared.phase.ThreadState.{ThreadState}
 use Rattle.tko_steps.specs.declared.phase.ThreadState.TheVariants.{NotEnrolled, InCall}
-use Rattle.tko_steps.specs.Core.{owner_of, CoreState, abstract_of, has_number, is_enrolled, number_of, thread_at}
+use Rattle.tko_steps.specs.Core.{owner_of, CoreState, abstract_of, has_number, is_enrolled, drawn_number, thread_at}
 use Rattle.tko_steps.specs.Invariant.{IsCore, IsGroup, IsThread, firm_at, held_at, holds, holds_in, is_loose, is_loose_in}
 use Rattle.tko_steps.proofs.CountLemmas.{AreCounts, bit, holds-other, holds-own, in_own, IsOn, loose-other, loose-own, soft-other, soft-own, unread}
 use Rattle.tko_steps.proofs.ThreadLemmas.{count_by-moved, count_by-set_same, number-lt, number-once}
@@ -136,7 +136,7 @@ module _ (core : CoreState) (thread : ℕ) (old new : ThreadState) (is : IsCore 
       }
 
   -- a step that writes the server's health word, which its thread may
-  pub IsCore-written : (number : ℕ) (now : ServerState) → number_of old ≡ Some number → server < length (abstract_of core)
+  pub IsCore-written : (number : ℕ) (now : ServerState) → drawn_number old ≡ Some number → server < length (abstract_of core)
       → IsFreeFor number (server_at (abstract_of core) server)
       → ((other : ℕ) → owner_of now.mark ≡ Some other → other ≡ number)
       → IsFit core.settings now.mark now.stamp
@@ -152,7 +152,7 @@ module _ (core : CoreState) (thread : ℕ) (old new : ThreadState) (is : IsCore 
       let servers = abstract_of core in
       let mine = own-group core server is in
       let was = server_at servers server in
-      let named_at : number_of (get_or core.threads thread NotEnrolled) ≡ Some number = ap number_of stands ∙ named in
+      let named_at : drawn_number (get_or core.threads thread NotEnrolled) ≡ Some number = ap drawn_number stands ∙ named in
       let drawn = number-lt core.threads core.shared.enrolled thread number is.numbers inside named_at in
       record {
         settings = is.settings;

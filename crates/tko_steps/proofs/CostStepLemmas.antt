@@ -15,7 +15,7 @@ use Rattle.tko_steps.specs.declared.table.Decision.TheVariants.{Goes, Answers}
 use Rattle.tko_steps.specs.Core.{Shared, follows, word_at, slots_at}
 use Rattle.tko_steps.specs.Cost.{IsShort, most_steps}
 use Rattle.tko_steps.specs.Invariant.{IsThread}
-use Rattle.tko_steps.specs.Steps.{answer_of, decided_by, place_of}
+use Rattle.tko_steps.specs.Steps.{decided_answer, decided_by, place_of}
 use Rattle.tko_steps.specs.Runs.{InEveryRun, OwnStep, World, calls_of}
 use Rattle.tko_steps.specs.Table.{action_of, goes, lost_try, same_server, same_slots}
 use Rattle.tko_steps.proofs.PhaseStepLemmas.{knows_at}
@@ -127,7 +127,7 @@ cost-open s call taken (Emptied answer) knows = ends-loosen s call.op taken call
 
 -- the same along a run
 follows-cost : (s : Settings) (new : World) (thread : ℕ) (call : CallState) (steps : List OwnStep) (own : OwnStep) (decision : Decision)
-    → own.step.answer ≡ answer_of decision → CostAfter s call (suc (length steps)) decision
+    → own.step.answer ≡ decided_answer decision → CostAfter s call (suc (length steps)) decision
     → Follows s (λ at who one taken phase. KnowsCost s one (length taken) phase) (IsShort s) new thread call steps own decision
 follows-cost s new thread call steps own (Goes lost phase) answers costs = costs
 follows-cost s new thread call steps own (Answers answer) answers costs = (costs, λ none. cc)

@@ -9,9 +9,9 @@ use Rattle.tko_steps.specs.declared.phase.ThreadState.TheVariants.{NotEnrolled, 
 use Rattle.tko_steps.specs.declared.table.Decision.{Decision}
 use Rattle.tko_steps.specs.declared.table.Decision.TheVariants.{Goes, Answers}
 use Rattle.tko_model.specs.Ranges.{IsWithinRanges}
-use Rattle.tko_steps.specs.Runs.{Turn, Call, InEveryRun, OwnStep, StepTaken, World, calls_of, happens, run, start}
+use Rattle.tko_steps.specs.Runs.{Turn, RunCall, InEveryRun, OwnStep, StepTaken, World, calls_of, happens, run, start_world}
 use Rattle.tko_steps.specs.Core.{abstract_of, after_act, follows}
-use Rattle.tko_steps.specs.Legal.{IsQuiet}
+use Rattle.tko_steps.specs.Legal.{ChangesNothing}
 use Rattle.tko_steps.specs.Table.{action_of}
 use Rattle.tko_steps.proofs.PhaseStepLemmas.{knows_at}
 use Rattle.tko_steps.proofs.LegalLemmas.{IsSoundCall}
@@ -63,7 +63,7 @@ HoldsCalls s w = InFamily s (KnowsCall s) (IsSoundCall s) w
 HoldsCalls-turn : (s : Settings) (w : World) (turn : Turn) → Holds s w → HoldsCalls s w → HoldsCalls s (happens w turn)
 HoldsCalls-turn s =
     InFamily-turn s (KnowsCall s) (IsSoundCall s) (Holds s)
-    (λ w thread number op server holds stands. All-nil IsQuiet)
+    (λ w thread number op server holds stands. All-nil ChangesNothing)
     (λ w thread call steps phase knows. sound-open s thread call steps (server_at (abstract_of w.core) call.server) phase knows)
     (call-acts s)
     (λ w thread other op server call steps phase knows. knows)
@@ -76,29 +76,29 @@ HoldsBoth s w = Holds s w × HoldsCalls s w
 pub HoldsBoth-happens : (s : Settings) (w : World) (turn : Turn) → HoldsBoth s w → HoldsBoth s (happens w turn)
 HoldsBoth-happens s w turn both = (Holds-turn s w turn both.0, HoldsCalls-turn s w turn both.0 both.1)
 
-pub HoldsBoth-start : (s : Settings) → IsWithinRanges s → HoldsBoth s (start s)
+pub HoldsBoth-start : (s : Settings) → IsWithinRanges s → HoldsBoth s (start_world s)
 HoldsBoth-start s ranges = (Holds-start s ranges, InFamily-start s (KnowsCall s) (IsSoundCall s))
 
 pub HoldsBoth-run : InEveryRun HoldsBoth
-HoldsBoth-run s ranges turns = along-turns HoldsBoth HoldsBoth-happens s (start s) turns (HoldsBoth-start s ranges)
+HoldsBoth-run s ranges turns = along-turns HoldsBoth HoldsBoth-happens s (start_world s) turns (HoldsBoth-start s ranges)
 
 pub SoundCalls-run : InEveryRun (λ s w. All (IsSoundCall s) (calls_of w.past))
 SoundCalls-run s ranges turns = (HoldsBoth-run s ranges turns).1.calls
 
 -- what begins, enrolments and steps of calls keep holds in every run
-pub along : (P : Settings → World → Type 0) → ((s : Settings) → IsWithinRanges s → P s (start s))
+pub along : (P : Settings → World → Type 0) → ((s : Settings) → IsWithinRanges s → P s (start_world s))
     → AtBegin HoldsBoth P → AtEnrol HoldsBoth P → AtAct HoldsBoth P → InEveryRun P
 along P opens at_begin at_enrol at_act = λ s ranges turns.
     (along-turns (λ it w. HoldsBoth it w × P it w)
     (λ it w turn all. (HoldsBoth-happens it w turn all.0, along-turn HoldsBoth P at_begin at_enrol at_act it w turn all.0 all.1))
-    s (start s) turns (HoldsBoth-start s ranges, opens s ranges)).1
+    s (start_world s) turns (HoldsBoth-start s ranges, opens s ranges)).1
 
 -- a further family of facts about calls
-module _ (s : Settings) (K : World → ℕ → CallState → List OwnStep → Phase → Type 0) (P : Call → Type 0)
+module _ (s : Settings) (K : World → ℕ → CallState → List OwnStep → Phase → Type 0) (P : RunCall → Type 0)
     (opens : Opens s K P (HoldsBoth s)) (enough : IsEnough s K P) (acts : Acts s K P (HoldsBoth s)) (at_begin : KeptAtBegin s K P)
     (at_step : KeptAtStep s K P (HoldsBoth s)) where
   pub InFamily-run : IsWithinRanges s → (turns : List Turn) → HoldsBoth s (run s turns) × InFamily s K P (run s turns)
   InFamily-run ranges turns =
       along-turns (λ it w. HoldsBoth s w × InFamily s K P w)
       (λ it w turn all. (HoldsBoth-happens s w turn all.0, InFamily-turn s K P (HoldsBoth s) opens enough acts at_begin at_step w turn all.0 all.1))
-      s (start s) turns (HoldsBoth-start s ranges, InFamily-start s K P)
+      s (start_world s) turns (HoldsBoth-start s ranges, InFamily-start s K P)

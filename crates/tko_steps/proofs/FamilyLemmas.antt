@@ -12,9 +12,9 @@ use Rattle.tko_steps.specs.declared.phase.ThreadState.{ThreadState}
 use Rattle.tko_steps.specs.declared.phase.ThreadState.TheVariants.{NotEnrolled, Idle, InCall}
 use Rattle.tko_steps.specs.declared.table.Decision.{Decision}
 use Rattle.tko_steps.specs.declared.table.Decision.TheVariants.{Goes, Answers}
-use Rattle.tko_steps.specs.Runs.{Turn, Call, OwnStep, World, and_step, begun_call, calls_of, happens, own_step, start, with_step}
+use Rattle.tko_steps.specs.Runs.{Turn, RunCall, OwnStep, World, and_step, begun_call, calls_of, happens, own_step, start_world, with_step}
 use Rattle.tko_steps.specs.Core.{follows, thread_at}
-use Rattle.tko_steps.specs.Steps.{answer_of, begun_by, state_after}
+use Rattle.tko_steps.specs.Steps.{begun_by, decided_answer, decided_state}
 use Rattle.tko_steps.proofs.CountLemmas.{get_or-replicate_same}
 use Rattle.tko_steps.proofs.CallLemmas.{All-with_step, latest, latest-begun_call, latest-begun_call_other, latest-with_step_other, latest-with_step_same, with_step-none}
 use Rattle.tko_steps.proofs.AlongLemmas.{along-turn}
@@ -26,7 +26,7 @@ use Rattle.tko_steps.proofs.WiringLemmas.{begun, stepped_from}
 abbrev pub act_own : World → ℕ → CallState → Phase → OwnStep
 act_own w thread call phase = own_step (act_step w.core thread call phase) w.past
 
-module _ (s : Settings) (K : World → ℕ → CallState → List OwnStep → Phase → Type 0) (P : Call → Type 0) where
+module _ (s : Settings) (K : World → ℕ → CallState → List OwnStep → Phase → Type 0) (P : RunCall → Type 0) where
   -- what its own step leaves a call with, in the world after it
   abbrev pub Follows : World → ℕ → CallState → List OwnStep → OwnStep → Decision → Type 0
   Follows new thread call steps own (Goes lost phase) = K new thread (record call { lost = lost }) (own ∷ steps) phase
@@ -42,7 +42,7 @@ module _ (s : Settings) (K : World → ℕ → CallState → List OwnStep → Ph
   KeptAtBegin = (w : World) (thread other : ℕ) (op : Op) (server : ℕ) (call : CallState) (steps : List OwnStep) (phase : Phase)
       → K w thread call steps phase → K (begun w other op server) thread call steps phase
 
-  abbrev pub Stands : World → ℕ → ThreadState → Option Call → Type 0
+  abbrev pub Stands : World → ℕ → ThreadState → Option RunCall → Type 0
   Stands w thread NotEnrolled found = found ≡ None
   Stands w thread (Idle number) found = Unit {0}
   Stands w thread (InCall call phase) found =
@@ -53,12 +53,12 @@ module _ (s : Settings) (K : World → ℕ → CallState → List OwnStep → Ph
     pub calls : All P (calls_of w.past)
     pub stand : (thread : ℕ) → Stands w thread (thread_at w.core thread) (latest thread (calls_of w.past))
 
-  pub InFamily-start : InFamily (start s)
+  pub InFamily-start : InFamily (start_world s)
   InFamily-start =
       record {
         calls = All-nil P;
         stand = λ thread.
-            let Q : ThreadState → Type 0 = λ state. Stands (start s) thread state None in
+            let Q : ThreadState → Type 0 = λ state. Stands (start_world s) thread state None in
             subst Q (sym (get_or-replicate_same s.threads thread NotEnrolled)) refl;
       }
 
@@ -84,7 +84,7 @@ module _ (s : Settings) (K : World → ℕ → CallState → List OwnStep → Ph
         → (thread ≡ other → ⊥) → K w thread call steps phase → K (stepped_from w other state) thread call steps phase
 
     module _ (opens : Opens) (enough : IsEnough) (acts : Acts) (at_begin : KeptAtBegin) (at_step : KeptAtStep) where
-      Stands-begun : (w : World) (thread other : ℕ) (op : Op) (server : ℕ) (state : ThreadState) (found : Option Call)
+      Stands-begun : (w : World) (thread other : ℕ) (op : Op) (server : ℕ) (state : ThreadState) (found : Option RunCall)
           → Stands w thread state found → Stands (begun w other op server) thread state found
       Stands-begun w thread other op server NotEnrolled found stands = stands
       Stands-begun w thread other op server (Idle number) found stands = tt
@@ -95,7 +95,7 @@ module _ (s : Settings) (K : World → ℕ → CallState → List OwnStep → Ph
           → thread < length w.core.threads → thread_at w.core thread ≡ Idle number → InFamily (begun w thread op server)
       InFamily-begun w thread number op server both holds inside stands =
           let new : ThreadState = InCall (begun_by number op server) Start in
-          let call : Call = begun_call thread number op server in
+          let call : RunCall = begun_call thread number op server in
           let calls = calls_of w.past in
           let after = begun w thread op server in
           let is_new : thread_at after.core thread ≡ new =
@@ -103,7 +103,7 @@ module _ (s : Settings) (K : World → ℕ → CallState → List OwnStep → Ph
           let is_call : calls_of after.past ≡ call ∷ calls = rw stands refl in
           let knows = opens w thread number op server both stands in
           let first = enough after thread (begun_by number op server) [] Start knows in
-          let Q : List Call → Type 0 = λ all. All P all in
+          let Q : List RunCall → Type 0 = λ all. All P all in
           record {
             calls = subst Q (sym is_call) (All-cons P call calls first holds.calls);
             stand = λ other.
@@ -119,12 +119,12 @@ module _ (s : Settings) (K : World → ℕ → CallState → List OwnStep → Ph
                 let found : latest other (calls_of after.past) ≡ latest other calls =
                 ap (latest other) is_call ∙ latest-begun_call_other thread number op server calls other apart in
                 let R : ThreadState → Type 0 = λ it. Stands after other it (latest other (calls_of after.past)) in
-                let F : Option Call → Type 0 = λ it. Stands after other state it in
+                let F : Option RunCall → Type 0 = λ it. Stands after other state it in
                 subst R (sym same) (subst F (sym found) (Stands-begun w other thread op server state (latest other calls) (holds.stand other))))
                 (cases_eq other thread);
           }
 
-      Stands-stepped : (w : World) (thread other : ℕ) (by state : ThreadState) (found : Option Call) → Base w
+      Stands-stepped : (w : World) (thread other : ℕ) (by state : ThreadState) (found : Option RunCall) → Base w
           → other < length w.core.threads → thread_at w.core other ≡ by → thread_at w.core thread ≡ state → (thread ≡ other → ⊥)
           → Stands w thread state found → Stands (stepped_from w other by) thread state found
       Stands-stepped w thread other by NotEnrolled found both inside at here apart stands = stands
@@ -140,7 +140,7 @@ module _ (s : Settings) (K : World → ℕ → CallState → List OwnStep → Ph
           let own : OwnStep = own_step (enrol_step w.core thread) w.past in
           let none : latest thread calls ≡ None = rw stands at (holds.stand thread) in
           let same : with_step own calls ≡ calls = with_step-none own calls none in
-          let Q : List Call → Type 0 = λ all. All P all in
+          let Q : List RunCall → Type 0 = λ all. All P all in
           record {
             calls = subst Q (sym same) holds.calls;
             stand = λ other.
@@ -154,14 +154,14 @@ module _ (s : Settings) (K : World → ℕ → CallState → List OwnStep → Ph
                 let is_old : thread_at after.core other ≡ state = get_or-set_other w.core.threads thread other _ NotEnrolled apart in
                 let found : latest other (calls_of after.past) ≡ latest other calls = ap (latest other) same in
                 let R : ThreadState → Type 0 = λ it. Stands after other it (latest other (calls_of after.past)) in
-                let F : Option Call → Type 0 = λ it. Stands after other state it in
+                let F : Option RunCall → Type 0 = λ it. Stands after other state it in
                 subst R (sym is_old) (subst F (sym found)
                 (Stands-stepped w other thread NotEnrolled state (latest other calls) both inside stands refl apart (holds.stand other))))
                 (cases_eq other thread);
           }
 
       follows-sound : (new : World) (thread : ℕ) (call : CallState) (steps : List OwnStep) (own : OwnStep) (decision : Decision)
-          → own.step.answer ≡ answer_of decision → Follows new thread call steps own decision → P (and_step (open_call thread call steps) own)
+          → own.step.answer ≡ decided_answer decision → Follows new thread call steps own decision → P (and_step (open_call thread call steps) own)
       follows-sound new thread call steps own (Goes lost phase) answer next =
           let Q : Option Reply → Type 0 = λ it. P (record {
             thread = thread;
@@ -175,11 +175,11 @@ module _ (s : Settings) (K : World → ℕ → CallState → List OwnStep → Ph
       follows-sound new thread call steps own (Answers answer) told next = next
 
       follows-stands : (new : World) (thread : ℕ) (call : CallState) (steps : List OwnStep) (own : OwnStep) (decision : Decision)
-          → own.step.answer ≡ answer_of decision → Follows new thread call steps own decision
-          → Stands new thread (state_after call decision) (Some (and_step (open_call thread call steps) own))
+          → own.step.answer ≡ decided_answer decision → Follows new thread call steps own decision
+          → Stands new thread (decided_state call decision) (Some (and_step (open_call thread call steps) own))
       follows-stands new thread call steps own (Goes lost phase) answer next =
           let same : and_step (open_call thread call steps) own ≡ open_call thread (record call { lost = lost }) (own ∷ steps) =
-          ap (λ it. let at : Call = record {
+          ap (λ it. let at : RunCall = record {
             thread = thread;
             number = call.number;
             op = call.op;
@@ -203,7 +203,7 @@ module _ (s : Settings) (K : World → ℕ → CallState → List OwnStep → Ph
           let next = acts w thread call steps phase both inside stands is knows in
           let sound : P (and_step opened own) = follows-sound after thread call steps own decision refl next in
           let now : latest thread (with_step own calls) ≡ Some (and_step opened own) = latest-with_step_same own opened calls is in
-          let Q : Call → Type 0 = λ it. P (and_step it own) in
+          let Q : RunCall → Type 0 = λ it. P (and_step it own) in
           record {
             calls = All-with_step P own calls holds.calls
                 (λ it found. let same : opened ≡ it = cc (found, is) in subst Q same sound);
@@ -212,8 +212,8 @@ module _ (s : Settings) (K : World → ℕ → CallState → List OwnStep → Ph
                 (λ (e : other ≡ thread).
                 let T : ℕ → Type 0 = λ at. Stands after at (thread_at after.core at) (latest at (calls_of after.past)) in
                 let R : ThreadState → Type 0 = λ it. Stands after thread it (latest thread (calls_of after.past)) in
-                let F : Option Call → Type 0 = λ it. Stands after thread (state_after call decision) it in
-                let is_new : thread_at after.core thread ≡ state_after call decision =
+                let F : Option RunCall → Type 0 = λ it. Stands after thread (decided_state call decision) it in
+                let is_new : thread_at after.core thread ≡ decided_state call decision =
                 get_or-set_same w.core.threads thread _ NotEnrolled inside in
                 subst T (sym e) (subst R (sym is_new) (subst F (sym now) (follows-stands after thread call steps own decision refl next))))
                 (λ (apart : other ≡ thread → ⊥).
@@ -221,7 +221,7 @@ module _ (s : Settings) (K : World → ℕ → CallState → List OwnStep → Ph
                 let is_old : thread_at after.core other ≡ state = get_or-set_other w.core.threads thread other _ NotEnrolled apart in
                 let found : latest other (calls_of after.past) ≡ latest other calls = latest-with_step_other own calls other apart in
                 let R : ThreadState → Type 0 = λ it. Stands after other it (latest other (calls_of after.past)) in
-                let F : Option Call → Type 0 = λ it. Stands after other state it in
+                let F : Option RunCall → Type 0 = λ it. Stands after other state it in
                 subst R (sym is_old) (subst F (sym found)
                 (Stands-stepped w other thread (InCall call phase) state (latest other calls) both inside stands refl apart (holds.stand other))))
                 (cases_eq other thread);

@@ -11,12 +11,12 @@ use Rattle.tko_steps.specs.declared.phase.Phase.{Phase}
 use Rattle.tko_steps.specs.declared.phase.Phase.TheVariants.{Start, Read, AtThreshold, Limit, Reserving, Holding, Firming, Losing, Loosening, Loosened, Emptied}
 use Rattle.tko_steps.specs.declared.phase.ThreadState.{ThreadState}
 use Rattle.tko_steps.specs.declared.phase.ThreadState.TheVariants.{NotEnrolled, Idle, InCall}
-use Rattle.tko_steps.specs.declared.step.Kind.TheVariants as kind
+use Rattle.tko_steps.specs.declared.step.StepKind.TheVariants as kind
 use Rattle.tko_steps.specs.Core.{owner_of, CoreState, Shared, abstract_of, word_at}
 use Rattle.tko_steps.specs.Invariant.{IsCore, IsFoundBy, IsOwnOrUp, IsPhase, IsThread}
 use Rattle.tko_steps.specs.Kinds.{HasKind, HaveKinds, IsClearedOrHard, IsKindAt, IsReadKind, IsSure, NoneIsLost, can_be_lost}
 use Rattle.tko_steps.specs.Runs.{InEveryRun, Took, World}
-use Rattle.tko_steps.specs.Steps.{is_done, kind_of, kind_of_exchange, place_of, seen_in}
+use Rattle.tko_steps.specs.Steps.{is_done, kind_of_exchange, place_of, seen_in, step_kind}
 use Rattle.tko_steps.specs.Table.{action_of, same_server}
 use Rattle.tko_steps.proofs.PhaseStepLemmas.{knows_at}
 use Rattle.tko_steps.proofs.EveryTurnLemmas.{along}
@@ -51,7 +51,7 @@ loosened-kind number (Soft owner) new is = refl
 loosened-kind number (Hard owner) new is = refl
 
 kind-at : (s : Settings) (call : Call) (now : ServerState) (phase : Phase) → IsPhase s call now phase
-    → IsKindAt call.number phase (kind_of (action_of call.number phase))
+    → IsKindAt call.number phase (step_kind (action_of call.number phase))
 kind-at s call now Start knows = refl
 kind-at s call now (Read found mark answer) knows = read-kind call.number now found found.mark mark knows.1 knows.0.own
 kind-at s call now (AtThreshold found) knows = refl
@@ -91,7 +91,7 @@ module _ (s : Settings) (shared : Shared) (call : Call) where
 
   -- a step of a kind that cannot be lost does what it meant to
   pub sure-act : (phase : Phase) → IsThread s shared.servers (InCall call phase)
-      → can_be_lost (kind_of (action_of call.number phase)) ≡ false
+      → can_be_lost (step_kind (action_of call.number phase)) ≡ false
       → is_done (seen_in (action_of call.number phase) (word_at shared (place_of s call.server (action_of call.number phase)))) ≡ true
   sure-act Start knows sure = refl
   sure-act (Read found mark answer) knows sure =

@@ -11,7 +11,7 @@ use Rattle.tko_steps.specs.declared.phase.Phase.{Phase}
 use Rattle.tko_steps.specs.declared.phase.Phase.TheVariants.{Start, Read, AtThreshold, Limit, Reserving, Holding, Firming, Losing, Loosening, Loosened, Emptied}
 use Rattle.tko_steps.specs.declared.phase.ThreadState.{ThreadState}
 use Rattle.tko_steps.specs.declared.phase.ThreadState.TheVariants.{NotEnrolled, Idle, InCall}
-use Rattle.tko_steps.specs.Core.{owner_of, number_of}
+use Rattle.tko_steps.specs.Core.{owner_of, drawn_number}
 use Rattle.tko_steps.specs.Invariant.{IsFoundBy, IsPhase, IsThread}
 use Rattle.tko_steps.proofs.CountLemmas.{unread}
 
@@ -63,7 +63,7 @@ server-kept servers written server number other new free apart owned =
 
 -- a thread of another number knows what it knew
 pub IsThread-kept : (s : Settings) (servers : List ServerState) (written number : ℕ) (new : ServerState) (state : ThreadState)
-    → IsFreeFor number (server_at servers written) → (number_of state ≡ Some number → ⊥)
+    → IsFreeFor number (server_at servers written) → (drawn_number state ≡ Some number → ⊥)
     → IsThread s servers state → IsThread s (set servers written new) state
 IsThread-kept s servers written number new NotEnrolled free apart is = tt
 IsThread-kept s servers written number new (Idle own) free apart is = tt

@@ -10,42 +10,42 @@ use Rattle.tko_model.specs.declared.transition.Transition.{Transition}
 use Rattle.tko_model.specs.Groups.{limit_at}
 use Rattle.tko_model.specs.Tracker.{becomes, changed, has_room, server_at, softs_beside, stays, transition}
 use Rattle.tko_steps.specs.declared.phase.Call.{Call as CallState}
-use Rattle.tko_steps.specs.Legal.{ChangesAtMostOnce, IsFullAtLimit, IsLegal, IsLegalAt, IsQuiet, TakesEffect}
-use Rattle.tko_steps.specs.Runs.{Call, OwnStep, StepTaken, and_step}
+use Rattle.tko_steps.specs.Legal.{ChangesAtMostOnce, ChangesNothing, IsFullAtLimit, IsLegal, IsLegalAt, TakesEffect}
+use Rattle.tko_steps.specs.Runs.{OwnStep, RunCall, StepTaken, and_step}
 use Rattle.tko_steps.proofs.StartLemmas.{transition-sound}
 
 -- ---- steps of which at most one changes something
 
-once-quiet : (steps : List OwnStep) → All IsQuiet steps → ChangesAtMostOnce steps
+once-quiet : (steps : List OwnStep) → All ChangesNothing steps → ChangesAtMostOnce steps
 once-quiet [] quiet = tt
-once-quiet (own ∷ older) quiet = inl (All-tail IsQuiet own older quiet)
+once-quiet (own ∷ older) quiet = inl (All-tail ChangesNothing own older quiet)
 
-once-but_one : (newer older : List OwnStep) (own : OwnStep) → All IsQuiet (newer ++ older) → ChangesAtMostOnce (newer ++ own ∷ older)
+once-but_one : (newer older : List OwnStep) (own : OwnStep) → All ChangesNothing (newer ++ older) → ChangesAtMostOnce (newer ++ own ∷ older)
 once-but_one [] older own quiet = inl quiet
 once-but_one (first ∷ newer) older own quiet =
-    inr (All-head IsQuiet first (newer ++ older) quiet, once-but_one newer older own (All-tail IsQuiet first (newer ++ older) quiet))
+    inr (All-head ChangesNothing first (newer ++ older) quiet, once-but_one newer older own (All-tail ChangesNothing first (newer ++ older) quiet))
 
 -- ---- a call that is legal, what it answers and where
 
 -- the call is legal with this reply at one of its steps, before which the limit held
-pub record IsDone (s : Settings) (call : Call) (answer : Reply) : Type 0 where
+pub record IsDone (s : Settings) (call : RunCall) (answer : Reply) : Type 0 where
   pub own : OwnStep
   pub legal : IsLegalAt s call answer own
   pub limit : softs_beside s call.server own.step.before ≤ limit_at s call.server
 
 -- what the law says of each call
-pub record IsSoundCall (s : Settings) (call : Call) : Type 0 where
+pub record IsSoundCall (s : Settings) (call : RunCall) : Type 0 where
   pub legal : IsLegal s call
   pub once : ChangesAtMostOnce call.steps
   pub full : IsFullAtLimit s call
 
-IsDone-once : (s : Settings) (call : Call) (answer : Reply) → IsDone s call answer → ChangesAtMostOnce call.steps
+IsDone-once : (s : Settings) (call : RunCall) (answer : Reply) → IsDone s call answer → ChangesAtMostOnce call.steps
 IsDone-once s call answer done =
     let it = done.legal in
     subst ChangesAtMostOnce (sym it.steps) (once-but_one it.newer it.older done.own it.others)
 
 -- a call without an answer that changed nothing
-pub sound-quiet : (s : Settings) (call : Call) → call.answer ≡ None → All IsQuiet call.steps → IsSoundCall s call
+pub sound-quiet : (s : Settings) (call : RunCall) → call.answer ≡ None → All ChangesNothing call.steps → IsSoundCall s call
 sound-quiet s call unanswered quiet =
     record {
       legal = record { answered = λ reply e differs. cc; contended = λ e. cc; open_yet = λ e. inl quiet };
@@ -54,7 +54,7 @@ sound-quiet s call unanswered quiet =
     }
 
 -- a call that took effect and has no answer yet
-pub sound-done : (s : Settings) (call : Call) (answer : Reply) → call.answer ≡ None → IsDone s call answer → IsSoundCall s call
+pub sound-done : (s : Settings) (call : RunCall) (answer : Reply) → call.answer ≡ None → IsDone s call answer → IsSoundCall s call
 sound-done s call answer unanswered done =
     record {
       legal = record { answered = λ reply e differs. cc; contended = λ e. cc; open_yet = λ e. inr (answer, done.own, done.legal) };
@@ -63,7 +63,7 @@ sound-done s call answer unanswered done =
     }
 
 -- a call that lost every try
-pub sound-contended : (s : Settings) (call : Call) → call.answer ≡ Some Contended → All IsQuiet call.steps → IsSoundCall s call
+pub sound-contended : (s : Settings) (call : RunCall) → call.answer ≡ Some Contended → All ChangesNothing call.steps → IsSoundCall s call
 sound-contended s call answered quiet =
     record {
       legal = record {
@@ -76,7 +76,7 @@ sound-contended s call answered quiet =
     }
 
 -- a call that is answered as it took effect
-pub sound-answered : (s : Settings) (call : Call) (answer : Reply) → call.answer ≡ Some answer → IsDone s call answer → IsSoundCall s call
+pub sound-answered : (s : Settings) (call : RunCall) (answer : Reply) → call.answer ≡ Some answer → IsDone s call answer → IsSoundCall s call
 sound-answered s call answer answered done =
     let before = done.own.step.before in
     let it = server_at before call.server in
@@ -101,12 +101,12 @@ sound-answered s call answer answered done =
 -- ---- one more step
 
 -- the call of a thread at a phase, with the steps that it took
-abbrev pub open_call : ℕ → CallState → List OwnStep → Call
+abbrev pub open_call : ℕ → CallState → List OwnStep → RunCall
 open_call thread call steps =
     record { thread = thread; number = call.number; op = call.op; server = call.server; steps = steps; answer = None }
 
 -- the newest step takes effect, and the older ones changed nothing
-pub done-here : (s : Settings) (call : Call) (own : OwnStep) (answer : Reply) → All IsQuiet call.steps → TakesEffect s call answer own.step
+pub done-here : (s : Settings) (call : RunCall) (own : OwnStep) (answer : Reply) → All ChangesNothing call.steps → TakesEffect s call answer own.step
     → softs_beside s call.server own.step.before ≤ limit_at s call.server → IsDone s (and_step call own) answer
 done-here s call own answer quiet effect limit =
     record {
@@ -116,7 +116,7 @@ done-here s call own answer quiet effect limit =
     }
 
 -- the call took effect before, and the newest step changes nothing
-pub done-before : (s : Settings) (call : Call) (own : OwnStep) (answer : Reply) → IsDone s call answer → IsQuiet own
+pub done-before : (s : Settings) (call : RunCall) (own : OwnStep) (answer : Reply) → IsDone s call answer → ChangesNothing own
     → IsDone s (and_step call own) answer
 done-before s call own answer done quiet =
     let it = done.legal in
@@ -127,14 +127,14 @@ done-before s call own answer done quiet =
         older = it.older;
         steps = ap (λ steps. own ∷ steps) it.steps;
         effect = record { reply = it.effect.reply; change = it.effect.change };
-        others = All-cons IsQuiet own (it.newer ++ it.older) quiet it.others;
+        others = All-cons ChangesNothing own (it.newer ++ it.older) quiet it.others;
       };
       limit = done.limit;
     }
 
 -- ---- what takes effect
 
-module _ (s : Settings) (call : Call) (step : StepTaken) where
+module _ (s : Settings) (call : RunCall) (step : StepTaken) where
   abbrev it : ServerState
   it = server_at step.before call.server
 

@@ -18,7 +18,7 @@ use Rattle.tko_steps.specs.Core.{abstract_of, thread_at, slots_at}
 use Rattle.tko_steps.specs.Steps.{kind_of_exchange}
 use Rattle.tko_steps.specs.Invariant.{IsCore, holds_in}
 use Rattle.tko_steps.specs.Lost.{IsChangedSince, IsLostToOther, IsSlotOfOther, LosesToOthers, finds_change, finds_no_slot, is_look, last_look, newest_steps}
-use Rattle.tko_steps.specs.Runs.{Call, InEveryRun, OwnStep, StepTaken, Took, World, calls_of, run}
+use Rattle.tko_steps.specs.Runs.{InEveryRun, OwnStep, RunCall, StepTaken, Took, World, calls_of, run}
 use Rattle.tko_steps.specs.Table.{same_server, same_slots}
 use Rattle.tko_steps.proofs.CallLemmas.{latest}
 use Rattle.tko_steps.proofs.EveryTurnLemmas.{HoldsBoth}
@@ -59,12 +59,12 @@ passes-count_by p (x ∷ xs) d one =
           record { at = suc rest.at; passes = rest.passes }
     ]
 
-newest-either : (first : Call) (test : Bool) (found : Option Call) (steps : List OwnStep) (call : Call) → cond test (Some first) found ≡ Some call
+newest-either : (first : RunCall) (test : Bool) (found : Option RunCall) (steps : List OwnStep) (call : RunCall) → cond test (Some first) found ≡ Some call
     → (found ≡ Some call → steps ≡ call.steps) → cond test first.steps steps ≡ call.steps
-newest-either first true found steps call is rest = let same : first ≡ call = cc in ap (λ (it : Call). it.steps) same
+newest-either first true found steps call is rest = let same : first ≡ call = cc in ap (λ (it : RunCall). it.steps) same
 newest-either first false found steps call is rest = rest is
 
-newest_steps-latest : (thread : ℕ) (calls : List Call) (call : Call) → latest thread calls ≡ Some call → newest_steps thread calls ≡ call.steps
+newest_steps-latest : (thread : ℕ) (calls : List RunCall) (call : RunCall) → latest thread calls ≡ Some call → newest_steps thread calls ≡ call.steps
 newest_steps-latest thread [] call is = cc
 newest_steps-latest thread (first ∷ calls) call is = newest-either first (eqb first.thread thread) (latest thread calls) (newest_steps thread calls) call is (newest_steps-latest thread calls call)
 

@@ -12,7 +12,7 @@ use Rattle.tko_steps.specs.declared.step.Place.TheVariants as place
 use Rattle.tko_steps.specs.declared.step.Word.TheVariants as word
 use Rattle.tko_steps.specs.Core.{abstract_of, slots_at}
 use Rattle.tko_steps.specs.Lost.{ExpectsWhatItSaw, HasLostEachTry, IsChangedSince, holds_slot, last_look, lost_tries, owes_slot}
-use Rattle.tko_steps.specs.Runs.{Call, OwnStep, World}
+use Rattle.tko_steps.specs.Runs.{OwnStep, RunCall, World}
 use Rattle.tko_steps.proofs.StartLemmas.{is_plain}
 use Rattle.tko_model.specs.Groups.{group_of}
 
@@ -63,5 +63,5 @@ abbrev pub KnowsTries : Settings → World → ℕ → CallState → List OwnSte
 KnowsTries s w thread call steps phase = ExpectsWhatItSaw s steps × Tries s w thread call steps phase
 
 -- what the law says of the tries of a call
-abbrev pub IsTried : Settings → Call → Type 0
+abbrev pub IsTried : Settings → RunCall → Type 0
 IsTried s call = HasLostEachTry s call × ExpectsWhatItSaw s call.steps

@@ -19,7 +19,7 @@ use Rattle.tko_steps.specs.declared.step.Word.TheVariants as word
 use Rattle.tko_steps.specs.declared.table.Decision.{Decision}
 use Rattle.tko_steps.specs.declared.table.Decision.TheVariants.{Goes, Answers}
 use Rattle.tko_steps.specs.Core.{abstract_of, follows, thread_at, slots_at}
-use Rattle.tko_steps.specs.Steps.{answer_of, kind_of_exchange}
+use Rattle.tko_steps.specs.Steps.{decided_answer, kind_of_exchange}
 use Rattle.tko_steps.specs.Invariant.{IsCore}
 use Rattle.tko_steps.specs.Lost.{ExpectsWhatItSaw, IsChangedSince, holds_slot, is_exchange, is_give, is_look, is_look_of, last_look, loses_try, lost_tries, same_place, was_seen}
 use Rattle.tko_steps.specs.Runs.{Moment, OwnStep, StepTaken, Took, World}
@@ -150,7 +150,7 @@ module _ (w : World) (thread : ℕ) (call : CallState) (steps : List OwnStep) (i
         looked = last_look-here s (own Start) steps at_server loses_not here;
         since = inl refl;
       } in
-      from_start-is s call now (λ decision. (own Start).step.answer ≡ answer_of decision → Next Start decision)
+      from_start-is s call now (λ decision. (own Start).step.answer ≡ decided_answer decision → Next Start decision)
       (λ answer is_answer is told. answers Start answer told is_answer.contended (refl, expects))
       (λ soft fresh is told. ((refl, expects), looked))
       (λ mark answer put can by is told. ((refl, expects), (looked, put.plain)))
@@ -161,7 +161,7 @@ module _ (w : World) (thread : ℕ) (call : CallState) (steps : List OwnStep) (i
       let expected = expects-exchange phase found mark false has refl refl refl refl expects in
       cond_both (same_server now found) (Answers answer) (lost_try s call) (Next phase)
       (λ won.
-      answers phase answer (ap (λ b. answer_of (cond b (Answers answer) (lost_try s call))) won) (plain≢ answer Contended plain refl) expected)
+      answers phase answer (ap (λ b. decided_answer (cond b (Answers answer) (lost_try s call))) won) (plain≢ answer Contended plain refl) expected)
       (λ lost.
       loses-now phase found (cond-false _ _ _ lost) has (exchange-loses phase found mark false false has refl refl lost)
       (exchange-no_give found.mark mark) (exchange-holds found.mark mark (own phase).step.won (holds_slot steps) ∙ has.holds) expected)
@@ -193,7 +193,7 @@ module _ (w : World) (thread : ℕ) (call : CallState) (steps : List OwnStep) (i
       let looks : loses phase ≡ loses_try s (own phase).step (Some (word.Server found)) = ap (λ it. loses_try s (own phase).step it) has.looked in
       cond_both (same_server found now) (Answers Full) (lost_try s call) (Next phase)
       (λ same.
-      answers phase Full (ap (λ b. answer_of (cond b (Answers Full) (lost_try s call))) same) (λ e. cc) (refl, expects))
+      answers phase Full (ap (λ b. decided_answer (cond b (Answers Full) (lost_try s call))) same) (λ e. cc) (refl, expects))
       (λ other.
       loses-now phase found (cond-false _ _ _ other) has (looks ∙ ap (λ b. not b || false) other) refl has.holds (refl, expects))
   tries-act (Reserving found before) stands (expects, (has, counted)) =

@@ -13,14 +13,14 @@ use Rattle.tko_steps.specs.declared.phase.Call.{Call as CallState}
 use Rattle.tko_steps.specs.declared.phase.Phase.{Phase}
 use Rattle.tko_steps.specs.declared.phase.Phase.TheVariants.{Start, Read, AtThreshold, Limit, Reserving, Holding, Firming, Losing, Loosening, Loosened, Emptied}
 use Rattle.tko_steps.specs.declared.phase.ThreadState.TheVariants.{InCall}
-use Rattle.tko_steps.specs.declared.step.Kind.TheVariants as kind
+use Rattle.tko_steps.specs.declared.step.StepKind.TheVariants as kind
 use Rattle.tko_steps.specs.declared.table.Decision.{Decision}
 use Rattle.tko_steps.specs.declared.table.Decision.TheVariants.{Goes, Answers}
-use Rattle.tko_steps.specs.Core.{IsOwner, owner_of, abstract_of, follows, names, number_of, thread_at, slots_at}
-use Rattle.tko_steps.specs.Steps.{answer_of, kind_of_exchange}
+use Rattle.tko_steps.specs.Core.{IsOwner, owner_of, abstract_of, follows, names, drawn_number, thread_at, slots_at}
+use Rattle.tko_steps.specs.Steps.{decided_answer, kind_of_exchange}
 use Rattle.tko_steps.specs.Invariant.{IsCore, IsFoundBy}
 use Rattle.tko_steps.specs.Legal.{IsOwnersAnswer}
-use Rattle.tko_steps.specs.Runs.{Moment, OwnStep, Took, World, owns}
+use Rattle.tko_steps.specs.Runs.{Moment, OwnStep, Took, World, owns_in_past}
 use Rattle.tko_steps.specs.Steps.{is_server, owns_after}
 use Rattle.tko_steps.specs.Table.{goes, lost_try, same_server, same_slots}
 use Rattle.tko_steps.proofs.PhaseStepLemmas.{knows_at}
@@ -39,7 +39,7 @@ IsNotOwners number server own = IsOwner own.step.before number server → ⊥
 -- the thread did not own the server at any of these steps, and doesn't
 pub record IsUnowned (past : List Moment) (thread number server : ℕ) (steps : List OwnStep) : Type 0 where
   pub none : All (IsNotOwners number server) steps
-  pub owned : owns past thread server ≡ false
+  pub owned : owns_in_past past thread server ≡ false
 
 abbrev pub KnowsOwner : World → ℕ → CallState → List OwnStep → Phase → Type 0
 KnowsOwner w thread call steps Start = All (IsNotOwners call.number call.server) steps
@@ -111,8 +111,8 @@ module _ (w : World) (thread : ℕ) (call : CallState) (steps : List OwnStep) (i
       cond_both (eqb s.tries (call.lost + 1)) (Answers Contended) (Goes (call.lost + 1) Start) (Next phase)
       (λ last. answers-unowned phase Contended none) (λ left. none)
 
-  owns-here : (phase : Phase) → thread_at w.core thread ≡ InCall call phase → owns w.past thread call.server ≡ names now.mark (Some call.number)
-  owns-here phase stands = owned thread call.server ∙ ap (λ state. names now.mark (number_of state)) stands
+  owns-here : (phase : Phase) → thread_at w.core thread ≡ InCall call phase → owns_in_past w.past thread call.server ≡ names now.mark (Some call.number)
+  owns-here phase stands = owned thread call.server ∙ ap (λ state. names now.mark (drawn_number state)) stands
 
   -- a step of a thread that does not own the server
   none-step : (phase : Phase) → thread_at w.core thread ≡ InCall call phase → IsUnowned w.past thread call.number call.server steps
@@ -124,16 +124,16 @@ module _ (w : World) (thread : ℕ) (call : CallState) (steps : List OwnStep) (i
       unowned.none
 
   unowned-step : (phase : Phase) → thread_at w.core thread ≡ InCall call phase → IsUnowned w.past thread call.number call.server steps
-      → owns (Took (own phase).step ∷ w.past) thread call.server ≡ owns w.past thread call.server
+      → owns_in_past (Took (own phase).step ∷ w.past) thread call.server ≡ owns_in_past w.past thread call.server
       → IsUnowned (Took (own phase).step ∷ w.past) thread call.number call.server (own phase ∷ steps)
   unowned-step phase stands unowned same = record { none = none-step phase stands unowned; owned = same ∙ unowned.owned }
 
   -- an exchange that is lost takes nothing and gives nothing
   owns-lost : (phase : Phase) (found : ServerState) (mark : Mark) → (own phase).step.kind ≡ kind_of_exchange found.mark mark
-      → (own phase).step.won ≡ false → owns (Took (own phase).step ∷ w.past) thread call.server ≡ owns w.past thread call.server
+      → (own phase).step.won ≡ false → owns_in_past (Took (own phase).step ∷ w.past) thread call.server ≡ owns_in_past w.past thread call.server
   owns-lost phase found mark of_kind lost =
       let step = (own phase).step in
-      let has = owns w.past thread call.server in
+      let has = owns_in_past w.past thread call.server in
       cond_same (is_server call.server step.place && eqb step.thread thread) has (owns_after step.kind step.won step.left has)
       (ap (λ k. owns_after k step.won step.left has) of_kind
       ∙ ap (λ b. owns_after (kind_of_exchange found.mark mark) b step.left has) lost
@@ -141,10 +141,10 @@ module _ (w : World) (thread : ℕ) (call : CallState) (steps : List OwnStep) (i
 
   -- a look takes nothing and gives nothing
   owns-look : (phase : Phase) → (own phase).step.kind ≡ kind.Look
-      → owns (Took (own phase).step ∷ w.past) thread call.server ≡ owns w.past thread call.server
+      → owns_in_past (Took (own phase).step ∷ w.past) thread call.server ≡ owns_in_past w.past thread call.server
   owns-look phase looks =
       let step = (own phase).step in
-      let has = owns w.past thread call.server in
+      let has = owns_in_past w.past thread call.server in
       cond_same (is_server call.server step.place && eqb step.thread thread) has (owns_after step.kind step.won step.left has)
       (ap (λ k. owns_after k step.won step.left has) looks)
 
@@ -152,7 +152,7 @@ module _ (w : World) (thread : ℕ) (call : CallState) (steps : List OwnStep) (i
   unowned-first : thread_at w.core thread ≡ InCall call Start → All (IsNotOwners call.number call.server) steps → owner_of now.mark ≡ None
       → IsUnowned (Took (own Start).step ∷ w.past) thread call.number call.server (own Start ∷ steps)
   unowned-first stands none unmarked =
-      let not_mine : owns w.past thread call.server ≡ false = owns-here Start stands ∙ names-unmarked now.mark (Some call.number) unmarked in
+      let not_mine : owns_in_past w.past thread call.server ≡ false = owns-here Start stands ∙ names-unmarked now.mark (Some call.number) unmarked in
       unowned-step Start stands (record { none = none; owned = not_mine }) (owns-look Start refl)
 
   pub owner-act : (phase : Phase) → thread_at w.core thread ≡ InCall call phase → KnowsOwner w thread call steps phase
@@ -160,7 +160,7 @@ module _ (w : World) (thread : ℕ) (call : CallState) (steps : List OwnStep) (i
   owner-act Start stands none =
       let A : OwnStep → Type 0 = λ it. IsOwner it.step.before call.number call.server →
       ((own Start).step.answer ≢ Some Worn) × ((own Start).step.answer ≢ Some Contended) in
-      from_start-is s call now (λ decision. (own Start).step.answer ≡ answer_of decision → Next Start decision)
+      from_start-is s call now (λ decision. (own Start).step.answer ≡ decided_answer decision → Next Start decision)
       (λ answer is_answer is told.
       All-cons A (own Start) steps
       (λ owner. (
@@ -179,7 +179,7 @@ module _ (w : World) (thread : ℕ) (call : CallState) (steps : List OwnStep) (i
       let phase : Phase = Read found mark answer in
       let knows = knows_at w.core thread call is inside phase stands in
       cond_both (same_server now found) (Answers answer) (lost_try s call) (Next phase)
-      (λ won. answers-plain phase answer (ap (λ b. answer_of (cond b (Answers answer) (lost_try s call))) won) plain)
+      (λ won. answers-plain phase answer (ap (λ b. decided_answer (cond b (Answers answer) (lost_try s call))) won) plain)
       (λ lost. lost-unowned phase
       (none-step phase stands (unowned (found-unmarked call.number now found found.mark refl knows.2.1 lost))))
   owner-act (AtThreshold found) stands knows =

@@ -9,7 +9,7 @@ use Rattle.tko_steps.specs.declared.phase.ThreadState.{ThreadState}
 use Rattle.tko_steps.specs.declared.phase.ThreadState.TheVariants.{NotEnrolled, Idle, InCall}
 use Rattle.tko_steps.specs.Core.{IsOwner}
 use Rattle.tko_steps.specs.Legal.{IsOwnersAnswer}
-use Rattle.tko_steps.specs.Runs.{InEveryRun, OwnStep, World, calls_of, owns}
+use Rattle.tko_steps.specs.Runs.{InEveryRun, OwnStep, World, calls_of, owns_in_past}
 use Rattle.tko_steps.proofs.EveryTurnLemmas.{InFamily-run}
 use Rattle.tko_steps.proofs.LegalLemmas.{open_call}
 use Rattle.tko_steps.proofs.OwnLemmas.{act_step, enrol_step, owns-apart}
@@ -19,7 +19,7 @@ use Rattle.tko_steps.proofs.OwnerLemmas.{IsNotOwners, IsUnowned, KnowsOwner, all
 -- ---- what other threads leave
 
 module _ (w new : World) (thread : ℕ) (call : CallState) (steps : List OwnStep)
-    (same : owns new.past thread call.server ≡ owns w.past thread call.server) where
+    (same : owns_in_past new.past thread call.server ≡ owns_in_past w.past thread call.server) where
   unowned-kept : IsUnowned w.past thread call.number call.server steps → IsUnowned new.past thread call.number call.server steps
   unowned-kept unowned = record { none = unowned.none; owned = same ∙ unowned.owned }
 
@@ -37,7 +37,7 @@ module _ (w new : World) (thread : ℕ) (call : CallState) (steps : List OwnStep
   owner-kept (Emptied answer) knows = knows
 
 owns-stepped : (w : World) (thread other : ℕ) (state : ThreadState) (server : ℕ) → (thread ≡ other → ⊥)
-    → owns (stepped_from w other state).past thread server ≡ owns w.past thread server
+    → owns_in_past (stepped_from w other state).past thread server ≡ owns_in_past w.past thread server
 owns-stepped w thread other NotEnrolled server apart = owns-apart w.past (enrol_step w.core other) thread server apart
 owns-stepped w thread other (Idle number) server apart = refl
 owns-stepped w thread other (InCall call phase) server apart = owns-apart w.past (act_step w.core other call phase) thread server apart

@@ -12,7 +12,7 @@ use Rattle.tko_steps.specs.declared.phase.ThreadState.TheVariants.{InCall}
 use Rattle.tko_steps.specs.declared.table.Decision.{Decision}
 use Rattle.tko_steps.specs.declared.table.Decision.TheVariants.{Goes, Answers}
 use Rattle.tko_steps.specs.Core.{owner_of, CoreState, abstract_of, has_number, is_enrolled}
-use Rattle.tko_steps.specs.Steps.{state_after}
+use Rattle.tko_steps.specs.Steps.{decided_state}
 use Rattle.tko_steps.specs.Invariant.{IsFoundBy, IsOwnOrUp, IsThread, holds}
 use Rattle.tko_steps.proofs.CountLemmas.{IsOn}
 use Rattle.tko_steps.proofs.TableLemmas.{IsDecided}
@@ -20,20 +20,20 @@ use Rattle.tko_steps.proofs.KnownLemmas.{IsFreeFor}
 
 -- what a decision that holds no slot makes of its thread
 pub IsThread-decided : (s : Settings) (servers : List ServerState) (call : Call) (decision : Decision) → call.server < length servers
-    → IsDecided s call (server_at servers call.server) decision → IsThread s servers (state_after call decision)
+    → IsDecided s call (server_at servers call.server) decision → IsThread s servers (decided_state call decision)
 IsThread-decided s servers call (Goes lost phase) on_server decided = (on_server, decided.0, decided.1)
 IsThread-decided s servers call (Answers answer) on_server decided = tt
 
-pub enrolled-after : (call : Call) (decision : Decision) → is_enrolled (state_after call decision) ≡ true
+pub enrolled-after : (call : Call) (decision : Decision) → is_enrolled (decided_state call decision) ≡ true
 enrolled-after call (Goes lost phase) = refl
 enrolled-after call (Answers answer) = refl
 
 pub number-after : (call : Call) (decision : Decision) (phase : Phase) (number : ℕ)
-    → has_number number (state_after call decision) ≡ has_number number (InCall call phase)
+    → has_number number (decided_state call decision) ≡ has_number number (InCall call phase)
 number-after call (Goes lost at) phase number = refl
 number-after call (Answers answer) phase number = refl
 
-pub on-after : (call : Call) (decision : Decision) → IsOn call.server (state_after call decision)
+pub on-after : (call : Call) (decision : Decision) → IsOn call.server (decided_state call decision)
 on-after call (Goes lost phase) = refl
 on-after call (Answers answer) = tt
 
@@ -43,7 +43,7 @@ decided_core core thread call slots decision =
     record {
       settings = core.settings;
       shared = record { servers = abstract_of core; slots = slots; enrolled = core.shared.enrolled };
-      threads = set core.threads thread (state_after call decision);
+      threads = set core.threads thread (decided_state call decision);
     }
 
 -- what holds once an exchange was won
@@ -52,7 +52,7 @@ written_core core thread call now decision =
     record {
       settings = core.settings;
       shared = record { servers = set (abstract_of core) call.server now; slots = core.shared.slots; enrolled = core.shared.enrolled };
-      threads = set core.threads thread (state_after call decision);
+      threads = set core.threads thread (decided_state call decision);
     }
 
 -- the health word that a won exchange leaves
@@ -69,7 +69,7 @@ exchanged_core core thread call now wins loses won =
         slots = core.shared.slots;
         enrolled = core.shared.enrolled;
       };
-      threads = set core.threads thread (state_after call (cond won wins loses));
+      threads = set core.threads thread (decided_state call (cond won wins loses));
     }
 
 pub owners-written : (number : ℕ) (mark : Mark) → IsOwnOrUp number mark → (other : ℕ) → owner_of mark ≡ Some other → other ≡ number

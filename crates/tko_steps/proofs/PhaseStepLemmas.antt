@@ -14,7 +14,7 @@ use Rattle.tko_steps.specs.declared.phase.ThreadState.TheVariants.{NotEnrolled, 
 use Rattle.tko_steps.specs.declared.table.Decision.{Decision}
 use Rattle.tko_steps.specs.declared.table.Decision.TheVariants.{Answers}
 use Rattle.tko_steps.specs.Core.{owner_of, CoreState, abstract_of, after_act, slots_at, thread_at}
-use Rattle.tko_steps.specs.Steps.{state_after}
+use Rattle.tko_steps.specs.Steps.{decided_state}
 use Rattle.tko_steps.specs.Invariant.{IsCore, IsThread, holds, holds_at, holds_in, is_loose, is_loose_at}
 use Rattle.tko_steps.specs.Table.{goes, lost_try, same_server, same_slots}
 use Rattle.tko_steps.proofs.CountLemmas.{AreCounts, bit, counts-same, counts-set, holds-own, unread}
@@ -50,20 +50,20 @@ module _ (core : CoreState) (thread : ℕ) (call : Call) (is : IsCore core) (ins
   decided : (phase : Phase) (now : Slots) (slots : List Slots) (decision : Decision) → AreCounts all_slots own_group now slots
       → thread_at core thread ≡ InCall call phase
       → IsDecided core.settings call (server_at (abstract_of core) call.server) decision
-      → now.held + bit (holds_at phase) ≡ own_slots.held + bit (holds (state_after call decision))
-      → now.firm + bit (is_loose (state_after call decision)) ≡ own_slots.firm + bit (is_loose_at phase)
+      → now.held + bit (holds_at phase) ≡ own_slots.held + bit (holds (decided_state call decision))
+      → now.firm + bit (is_loose (decided_state call decision)) ≡ own_slots.firm + bit (is_loose_at phase)
       → now.firm + now.held ≤ limit_of core.settings own_group
       → IsCore (decided_core core thread call slots decision)
   decided phase now slots decision counts stands knows held firm room =
-      IsCore-slots core thread (InCall call phase) (state_after call decision) is inside stands
+      IsCore-slots core thread (InCall call phase) (decided_state call decision) is inside stands
       (enrolled-after call decision) (number-after call decision phase) call.server refl (on-after call decision) now slots counts
       (IsThread-decided core.settings (abstract_of core) call decision (knows_at phase stands).0 knows) held firm room
 
   -- the same, where the soft word stays
   same_slots_decided : (phase : Phase) (decision : Decision) → thread_at core thread ≡ InCall call phase
       → IsDecided core.settings call (server_at (abstract_of core) call.server) decision
-      → own_slots.held + bit (holds_at phase) ≡ own_slots.held + bit (holds (state_after call decision))
-      → own_slots.firm + bit (is_loose (state_after call decision)) ≡ own_slots.firm + bit (is_loose_at phase)
+      → own_slots.held + bit (holds_at phase) ≡ own_slots.held + bit (holds (decided_state call decision))
+      → own_slots.firm + bit (is_loose (decided_state call decision)) ≡ own_slots.firm + bit (is_loose_at phase)
       → IsCore (decided_core core thread call all_slots decision)
   same_slots_decided phase decision stands knows held firm =
       decided phase own_slots all_slots decision (counts-same all_slots own_group) stands knows held firm room-left
@@ -71,8 +71,8 @@ module _ (core : CoreState) (thread : ℕ) (call : Call) (is : IsCore core) (ins
   -- the same, where the soft word of the group is written
   shifted : (phase : Phase) (now : Slots) (decision : Decision) → thread_at core thread ≡ InCall call phase
       → IsDecided core.settings call (server_at (abstract_of core) call.server) decision
-      → now.held + bit (holds_at phase) ≡ own_slots.held + bit (holds (state_after call decision))
-      → now.firm + bit (is_loose (state_after call decision)) ≡ own_slots.firm + bit (is_loose_at phase)
+      → now.held + bit (holds_at phase) ≡ own_slots.held + bit (holds (decided_state call decision))
+      → now.firm + bit (is_loose (decided_state call decision)) ≡ own_slots.firm + bit (is_loose_at phase)
       → now.firm + now.held ≤ limit_of core.settings own_group
       → IsCore (decided_core core thread call (with_slots now) decision)
   shifted phase now decision stands knows held firm room =
@@ -101,9 +101,9 @@ module _ (core : CoreState) (thread : ℕ) (call : Call) (is : IsCore core) (ins
       → ((other : ℕ) → owner_of now.mark ≡ Some other → other ≡ call.number)
       → IsFit core.settings now.mark now.stamp
       → IsDecided core.settings call now decision
-      → bit (holds (state_after call decision)) ≡ bit (holds_at phase)
+      → bit (holds (decided_state call decision)) ≡ bit (holds_at phase)
       → bit (is_soft now.mark) + bit (is_loose_at phase)
-      ≡ bit (is_soft (server_at (abstract_of core) call.server).mark) + bit (is_loose (state_after call decision))
+      ≡ bit (is_soft (server_at (abstract_of core) call.server).mark) + bit (is_loose (decided_state call decision))
       → IsCore (written_core core thread call now decision)
   wrote phase now decision stands free owned fit knows held soft =
       let servers = abstract_of core in
@@ -111,7 +111,7 @@ module _ (core : CoreState) (thread : ℕ) (call : Call) (is : IsCore core) (ins
       let here : server_at (set servers call.server now) call.server ≡ now = get_or-set_same servers call.server now unread on_server in
       let there : call.server < length (set servers call.server now) = rw length-set on_server in
       let P : ServerState → Type 0 = λ it. IsDecided core.settings call it decision in
-      IsCore-written core thread (InCall call phase) (state_after call decision) is inside stands
+      IsCore-written core thread (InCall call phase) (decided_state call decision) is inside stands
       (enrolled-after call decision) (number-after call decision phase) call.server refl (on-after call decision) call.number now refl
       on_server free owned fit
       (IsThread-decided core.settings (set servers call.server now) call decision there (subst P (sym here) knows))
@@ -214,7 +214,7 @@ module _ (core : CoreState) (thread : ℕ) (call : Call) (is : IsCore core) (ins
           slots = core.shared.slots;
           enrolled = core.shared.enrolled;
         };
-        threads = set core.threads thread (state_after call (goes call (Emptied answer)));
+        threads = set core.threads thread (decided_state call (goes call (Emptied answer)));
       }) in
       subst P (sym (eq-same_server now found knows.2.2)) (wrote phase (written found mark) (goes call (Emptied answer)) stands
       (λ other owned. let both : Some call.number ≡ Some other = sym (ap owner_of here) ∙ owned in let e : call.number ≡ other = cc in sym e)

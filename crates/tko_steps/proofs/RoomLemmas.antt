@@ -17,7 +17,7 @@ use Rattle.tko_steps.specs.declared.phase.Phase.TheVariants.{Start, Read, AtThre
 use Rattle.tko_steps.specs.declared.phase.ThreadState.TheVariants.{InCall}
 use Rattle.tko_steps.specs.declared.table.Action.{Action}
 use Rattle.tko_steps.specs.declared.table.Action.TheVariants.{LookAtServer, LookAtSlots, Exchange, Reserve, Settle, Loosen, Give}
-use Rattle.tko_steps.specs.Core.{CanAct, CoreState, IsPlace, Shared, is_enrolled, number_of, thread_at}
+use Rattle.tko_steps.specs.Core.{CanAct, CoreState, IsPlace, Shared, drawn_number, is_enrolled, thread_at}
 use Rattle.tko_steps.specs.Steps.{place_of}
 use Rattle.tko_word.specs.Words.{IsMark, stamp_end}
 use Rattle.tko_steps.specs.Invariant.{IsCore, IsOwnOrUp, IsWrite, firm_at, held_at}
@@ -55,7 +55,7 @@ mark-fits s number (Hard owner) stamp ranges low fit own = omega arith
 module _ (core : CoreState) (thread : ℕ) (call : Call) (is : IsCore core) (inside : thread < length core.threads) where
   number-fits : (phase : Phase) → thread_at core thread ≡ InCall call phase → call.number < max_threads layout.Two
   number-fits phase stands =
-      let drawn = number-lt core.threads core.shared.enrolled thread call.number is.numbers inside (ap number_of stands) in
+      let drawn = number-lt core.threads core.shared.enrolled thread call.number is.numbers inside (ap drawn_number stands) in
       omega (arith, drawn, enrolled-le core is, is.settings.threads.1)
 
   few-slots : firm_at core (group_of core.settings call.server) + held_at core (group_of core.settings call.server) ≤ 256

@@ -8,8 +8,8 @@ use Rattle.tko_model.specs.Tracker.{server_at}
 use Rattle.tko_steps.specs.declared.phase.Phase.TheVariants.{Start}
 use Rattle.tko_steps.specs.declared.phase.ThreadState.{ThreadState}
 use Rattle.tko_steps.specs.declared.phase.ThreadState.TheVariants.{NotEnrolled, Idle, InCall}
-use Rattle.tko_steps.specs.Runs.{Turn, InEveryRun, World, happens, start}
-use Rattle.tko_steps.specs.Core.{CoreState, abstract_of, names, number_of, opened_core, thread_at}
+use Rattle.tko_steps.specs.Runs.{Turn, InEveryRun, World, happens, start_world}
+use Rattle.tko_steps.specs.Core.{CoreState, abstract_of, drawn_number, names, opened_core, thread_at}
 use Rattle.tko_steps.specs.Steps.{begun_by}
 use Rattle.tko_steps.specs.Invariant.{IsCore, holds_in, is_loose_in}
 use Rattle.tko_steps.specs.Safe.{CountSlots, HasOneResponsible, OwnsItsMarks}
@@ -29,13 +29,13 @@ pub record Holds (s : Settings) (w : World) : Type 0 where
   pub settings : w.core.settings ≡ s
   pub owned : AreOwned w.past (abstract_of w.core) w.core.threads
 
-pub Holds-start : (s : Settings) → IsWithinRanges s → Holds s (start s)
+pub Holds-start : (s : Settings) → IsWithinRanges s → Holds s (start_world s)
 Holds-start s ranges =
     record {
       core = IsCore-opened_core s ranges;
       settings = refl;
       owned = λ thread server.
-          let none : number_of (thread_at (opened_core s) thread) ≡ None = ap number_of (get_or-replicate_same s.threads thread NotEnrolled) in
+          let none : drawn_number (thread_at (opened_core s) thread) ≡ None = ap drawn_number (get_or-replicate_same s.threads thread NotEnrolled) in
           let mark = (server_at (abstract_of (opened_core s)) server).mark in
           sym (ap (names mark) none ∙ names-none mark);
     }
@@ -68,7 +68,7 @@ Holds-turn s w turn holds =
     s w turn tt holds
 
 pub Holds-run : InEveryRun Holds
-Holds-run s ranges turns = along-turns Holds Holds-turn s (start s) turns (Holds-start s ranges)
+Holds-run s ranges turns = along-turns Holds Holds-turn s (start_world s) turns (Holds-start s ranges)
 
 pub CountSlots-core : (core : CoreState) → IsCore core → CountSlots core
 CountSlots-core core is group below =
@@ -86,7 +86,7 @@ CountSlots-core core is group below =
 pub OwnsItsMarks-world : (w : World) → AreOwned w.past (abstract_of w.core) w.core.threads → OwnsItsMarks w
 OwnsItsMarks-world w owned thread server =
     let mark = (server_at (abstract_of w.core) server).mark in
-    let found = number_of (thread_at w.core thread) in (
+    let found = drawn_number (thread_at w.core thread) in (
       λ has.
           let named = names-true mark found (sym (owned thread server) ∙ has) in
           record { number = named.0; enrolled = named.1; marked = named.2 },
@@ -97,6 +97,6 @@ pub HasOneResponsible-core : (core : CoreState) → IsCore core → HasOneRespon
 HasOneResponsible-core core is server one other mine theirs =
     let same : Some mine.number ≡ Some theirs.number = sym mine.marked ∙ theirs.marked in
     let number : theirs.number ≡ mine.number = cc in
-    let drawn : number_of (get_or core.threads other NotEnrolled) ≡ Some mine.number = theirs.enrolled ∙ ap Some number in
+    let drawn : drawn_number (get_or core.threads other NotEnrolled) ≡ Some mine.number = theirs.enrolled ∙ ap Some number in
     sym (number-once core.threads core.shared.enrolled one other mine.number is.numbers
     (number-inside core.threads one mine.number mine.enrolled) (number-inside core.threads other mine.number drawn) mine.enrolled drawn)

@@ -15,9 +15,9 @@ use Rattle.tko_steps.specs.declared.phase.Phase.{Phase}
 use Rattle.tko_steps.specs.declared.phase.Phase.TheVariants.{Start, Read, AtThreshold, Limit, Reserving, Holding, Firming, Losing, Loosening, Loosened, Emptied}
 use Rattle.tko_steps.specs.declared.table.Decision.{Decision}
 use Rattle.tko_steps.specs.declared.table.Decision.TheVariants.{Goes, Answers}
-use Rattle.tko_steps.specs.Steps.{answer_of, begun_by}
-use Rattle.tko_steps.specs.Legal.{IsQuiet}
-use Rattle.tko_steps.specs.Runs.{Call, OwnStep, StepTaken, and_step}
+use Rattle.tko_steps.specs.Steps.{begun_by, decided_answer}
+use Rattle.tko_steps.specs.Legal.{ChangesNothing}
+use Rattle.tko_steps.specs.Runs.{OwnStep, RunCall, StepTaken, and_step}
 use Rattle.tko_steps.specs.Table.{from_start, goes, lost_try}
 use Rattle.tko_steps.proofs.StartLemmas.{Decides, Marks, from_start-is}
 use Rattle.tko_steps.proofs.LegalLemmas.{IsDone, IsSoundCall, done-here, effect-becomes, effect-stays, open_call, sound-answered, sound-contended, sound-done, sound-quiet}
@@ -34,28 +34,28 @@ pub record SawLimit (s : Settings) (server : ℕ) (found now : ServerState) (ste
   pub newer : List OwnStep
   pub older : List OwnStep
   pub among : steps ≡ newer ++ own ∷ older
-  pub others : All IsQuiet (newer ++ older)
-  pub quiet : IsQuiet own
+  pub others : All ChangesNothing (newer ++ older)
+  pub quiet : ChangesNothing own
   pub limit : softs_beside s server own.step.before ≡ limit_at s server
   pub after_found : IsNotNewer found (server_at own.step.before server)
   pub before_now : IsNotNewer (server_at own.step.before server) now
 
 abbrev KnowsAt : Settings → ℕ → CallState → List OwnStep → ServerState → Phase → Type 0
-KnowsAt s thread call steps now Start = All IsQuiet steps
+KnowsAt s thread call steps now Start = All ChangesNothing steps
 KnowsAt s thread call steps now (Read found mark answer) =
-    All IsQuiet steps × Decides s call.number call.op found (becomes mark answer)
+    All ChangesNothing steps × Decides s call.number call.op found (becomes mark answer)
 KnowsAt s thread call steps now (AtThreshold found) =
-    All IsQuiet steps × Marks s call.number call.op found × IsNotNewer found now
+    All ChangesNothing steps × Marks s call.number call.op found × IsNotNewer found now
 KnowsAt s thread call steps now (Limit found) =
-    All IsQuiet steps × Marks s call.number call.op found × SawLimit s call.server found now steps
-KnowsAt s thread call steps now (Reserving found slots) = All IsQuiet steps × Marks s call.number call.op found
-KnowsAt s thread call steps now (Holding found) = All IsQuiet steps × Marks s call.number call.op found
+    All ChangesNothing steps × Marks s call.number call.op found × SawLimit s call.server found now steps
+KnowsAt s thread call steps now (Reserving found slots) = All ChangesNothing steps × Marks s call.number call.op found
+KnowsAt s thread call steps now (Holding found) = All ChangesNothing steps × Marks s call.number call.op found
 KnowsAt s thread call steps now Firming = IsDone s (open_call thread call steps) TookSoft
-KnowsAt s thread call steps now Losing = All IsQuiet steps
+KnowsAt s thread call steps now Losing = All ChangesNothing steps
 KnowsAt s thread call steps now (Loosening found mark answer) =
-    All IsQuiet steps × Decides s call.number call.op found (becomes mark answer)
+    All ChangesNothing steps × Decides s call.number call.op found (becomes mark answer)
 KnowsAt s thread call steps now (Loosened found mark answer) =
-    All IsQuiet steps × Decides s call.number call.op found (becomes mark answer)
+    All ChangesNothing steps × Decides s call.number call.op found (becomes mark answer)
 KnowsAt s thread call steps now (Emptied answer) = IsDone s (open_call thread call steps) answer
 
 -- lost tries are no matter of it
@@ -136,7 +136,7 @@ Knows-kept s thread call steps now new (Emptied answer) on knows = knows
 
 -- a step with the answer of its decision
 abbrev pub with_decision : ℕ → StepTaken → Decision → OwnStep
-with_decision at base decision = record { at = at; step = record base { answer = answer_of decision } }
+with_decision at base decision = record { at = at; step = record base { answer = decided_answer decision } }
 
 abbrev pub Told : Settings → ℕ → CallState → List OwnStep → ℕ → StepTaken → ServerState → Decision → Type 0
 Told s thread call steps at base now (Goes lost phase) =
@@ -145,7 +145,7 @@ Told s thread call steps at base now (Answers answer) =
     IsSoundCall s (and_step (open_call thread call steps) (with_decision at base (Answers answer)))
 
 module _ (s : Settings) (thread : ℕ) (call : CallState) (steps : List OwnStep) (at : ℕ) (base : StepTaken) where
-  abbrev opened : Call
+  abbrev opened : RunCall
   opened = open_call thread call steps
 
   abbrev own : Decision → OwnStep
@@ -154,11 +154,11 @@ module _ (s : Settings) (thread : ℕ) (call : CallState) (steps : List OwnStep)
   abbrev told : ServerState → Decision → Type 0
   told now decision = Told s thread call steps at base now decision
 
-  pub still_quiet : (decision : Decision) → base.after ≡ base.before → All IsQuiet steps → All IsQuiet (own decision ∷ steps)
-  still_quiet decision same quiet = All-cons IsQuiet (own decision) steps same quiet
+  pub still_quiet : (decision : Decision) → base.after ≡ base.before → All ChangesNothing steps → All ChangesNothing (own decision ∷ steps)
+  still_quiet decision same quiet = All-cons ChangesNothing (own decision) steps same quiet
 
   -- a try that is lost
-  pub told-lost : (now : ServerState) → base.after ≡ base.before → All IsQuiet steps → told now (lost_try s call)
+  pub told-lost : (now : ServerState) → base.after ≡ base.before → All ChangesNothing steps → told now (lost_try s call)
   told-lost now same quiet =
       let again : Decision = Goes (call.lost + 1) Start in
       let gives_up : Decision = Answers Contended in
@@ -167,7 +167,7 @@ module _ (s : Settings) (thread : ℕ) (call : CallState) (steps : List OwnStep)
       (λ e. still_quiet again same quiet)
 
   -- an answer that changes nothing
-  pub told-stays : (now : ServerState) (answer : Reply) → base.after ≡ base.before → All IsQuiet steps → softs_beside s call.server base.before ≤ limit_at s call.server
+  pub told-stays : (now : ServerState) (answer : Reply) → base.after ≡ base.before → All ChangesNothing steps → softs_beside s call.server base.before ≤ limit_at s call.server
       → Decides s call.number call.op (server_at base.before call.server) (stays answer) → told now (Answers answer)
   told-stays now answer same quiet limit decides =
       let last = own (Answers answer) in
@@ -175,7 +175,7 @@ module _ (s : Settings) (thread : ℕ) (call : CallState) (steps : List OwnStep)
       (done-here s opened last answer quiet (effect-stays s opened last.step answer (decides (has_room s base.before call.server)) same) limit)
 
   -- the look that begins a try
-  pub told-start : base.after ≡ base.before → All IsQuiet steps → softs_beside s call.server base.before ≤ limit_at s call.server
+  pub told-start : base.after ≡ base.before → All ChangesNothing steps → softs_beside s call.server base.before ≤ limit_at s call.server
       → (let now = server_at base.before call.server in told now (from_start s call now))
   told-start same quiet limit =
       let now = server_at base.before call.server in
@@ -186,7 +186,7 @@ module _ (s : Settings) (thread : ℕ) (call : CallState) (steps : List OwnStep)
       (λ mark answer put can own is. (still_quiet (goes call (Loosening now mark answer)) same quiet, is))
 
   -- the second look, which finds the word that the first look found
-  pub told-full : (found now : ServerState) → base.after ≡ base.before → All IsQuiet steps → Marks s call.number call.op found
+  pub told-full : (found now : ServerState) → base.after ≡ base.before → All ChangesNothing steps → Marks s call.number call.op found
       → SawLimit s call.server found now steps → found ≡ now → told now (Answers Full)
   told-full found now same quiet marks saw is =
       let last = own (Answers Full) in
@@ -205,13 +205,13 @@ module _ (s : Settings) (thread : ℕ) (call : CallState) (steps : List OwnStep)
           older = saw.older;
           steps = ap (λ them. last ∷ them) saw.among;
           effect = effect-stays s (and_step opened last) saw.own.step Full decides saw.quiet;
-          others = All-cons IsQuiet last (saw.newer ++ saw.older) same saw.others;
+          others = All-cons ChangesNothing last (saw.newer ++ saw.older) same saw.others;
         };
         limit = omega (arith, saw.limit);
       })
 
   -- the look at the soft word, which finds as many settled marks as may be
-  pub told-limit : (found : ServerState) (lost : ℕ) → base.after ≡ base.before → All IsQuiet steps → Marks s call.number call.op found
+  pub told-limit : (found : ServerState) (lost : ℕ) → base.after ≡ base.before → All ChangesNothing steps → Marks s call.number call.op found
       → IsNotNewer found (server_at base.before call.server) → softs_beside s call.server base.before ≡ limit_at s call.server
       → told (server_at base.before call.server) (Goes lost (Limit found))
   told-limit found lost same quiet marks older limit =
@@ -232,7 +232,7 @@ module _ (s : Settings) (thread : ℕ) (call : CallState) (steps : List OwnStep)
       )
 
   -- a write of what the operation makes of the word that it found
-  pub done-write : (decision : Decision) (found : ServerState) (mark : Mark) (answer : Reply) → All IsQuiet steps
+  pub done-write : (decision : Decision) (found : ServerState) (mark : Mark) (answer : Reply) → All ChangesNothing steps
       → transition s (has_room s base.before call.server) call.number call.op found.mark found.stamp ≡ becomes mark answer
       → server_at base.before call.server ≡ found
       → base.after ≡ set base.before call.server (record { mark = mark; stamp = found.stamp + 1 })

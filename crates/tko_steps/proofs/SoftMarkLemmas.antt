@@ -16,7 +16,7 @@ use Rattle.tko_steps.specs.declared.phase.Phase.{Phase}
 use Rattle.tko_steps.specs.declared.phase.Phase.TheVariants.{Start, Read, AtThreshold, Limit, Reserving, Holding, Firming, Losing, Loosening, Loosened, Emptied}
 use Rattle.tko_steps.specs.declared.phase.ThreadState.{ThreadState}
 use Rattle.tko_steps.specs.declared.phase.ThreadState.TheVariants.{NotEnrolled, Idle, InCall}
-use Rattle.tko_steps.specs.Core.{owner_of, has_number, number_of}
+use Rattle.tko_steps.specs.Core.{owner_of, has_number, drawn_number}
 use Rattle.tko_steps.specs.Invariant.{IsPhase, IsThread, holds_at, holds_in, is_loose_at, is_loose_in}
 use Rattle.tko_steps.proofs.CountLemmas.{bit, unread}
 use Rattle.tko_steps.proofs.ThreadLemmas.{OneEach, has_number-from, one-le-count_by}
@@ -62,7 +62,7 @@ IsBacked-thread s servers (InCall call phase) is =
 
 -- once the soft mark of one thread is taken away, those of the others are still theirs
 IsBacked-others : (servers : List ServerState) (server number : ℕ) (state : ThreadState)
-    → (server_at servers server).mark ≡ Soft number → (number_of state ≡ Some number → ⊥)
+    → (server_at servers server).mark ≡ Soft number → (drawn_number state ≡ Some number → ⊥)
     → IsBacked servers state → IsBacked (set servers server unread) state
 IsBacked-others servers server number NotEnrolled mine apart is = tt
 IsBacked-others servers server number (Idle own) mine apart is = tt
@@ -82,7 +82,7 @@ AreApart-tail state threads apart number =
 
 -- the number of the first thread is no other's
 AreApart-head : (state : ThreadState) (threads : List ThreadState) (number : ℕ) → AreApart (state ∷ threads)
-    → number_of state ≡ Some number → (i : ℕ) → i < length threads → number_of (get_or threads i NotEnrolled) ≡ Some number → ⊥
+    → drawn_number state ≡ Some number → (i : ℕ) → i < length threads → drawn_number (get_or threads i NotEnrolled) ≡ Some number → ⊥
 AreApart-head state threads number apart named i inside same =
     let first = ap bit (has_number-from state number named) in
     let rest = one-le-count_by (has_number number) threads i NotEnrolled inside (has_number-from (get_or threads i NotEnrolled) number same) in

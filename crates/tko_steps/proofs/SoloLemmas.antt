@@ -16,7 +16,7 @@ use Rattle.tko_steps.specs.declared.table.Action.TheVariants.{LookAtServer, Look
 use Rattle.tko_steps.specs.declared.table.Decision.{Decision}
 use Rattle.tko_steps.specs.declared.table.Decision.TheVariants.{Goes, Answers}
 use Rattle.tko_steps.specs.Core.{CoreState, abstract_of, after_act, follows, is_call_step, thread_at, slots_at}
-use Rattle.tko_steps.specs.Steps.{answer_of, kind_of, state_after}
+use Rattle.tko_steps.specs.Steps.{decided_answer, decided_state, step_kind}
 use Rattle.tko_steps.specs.Invariant.{IsCore, holds, holds_at, holds_in}
 use Rattle.tko_steps.specs.Table.{goes, lost_try, same_server, same_slots}
 use Rattle.tko_steps.proofs.CountLemmas.{holds_in-holds}
@@ -53,12 +53,12 @@ SteadyNext s call servers slots (Goes lost phase) =
 SteadyNext s call servers slots (Answers answer) = answer ≢ Contended
 
 pub steady-state : (s : Settings) (call : CallState) (servers : List ServerState) (slots : List Slots) (decision : Decision) → SteadyNext s call servers slots decision
-    → IsSteady s servers slots (state_after call decision)
+    → IsSteady s servers slots (decided_state call decision)
 steady-state s call servers slots (Goes lost phase) next = next
 steady-state s call servers slots (Answers answer) next = tt
 
 pub steady-plain : (s : Settings) (call : CallState) (servers : List ServerState) (slots : List Slots) (decision : Decision) → SteadyNext s call servers slots decision
-    → answer_of decision ≢ Some Contended
+    → decided_answer decision ≢ Some Contended
 steady-plain s call servers slots (Goes lost phase) next = λ e. cc
 steady-plain s call servers slots (Answers answer) next = λ e. let same : answer ≡ Contended = cc in next same
 
@@ -140,7 +140,7 @@ module _ (core : CoreState) (thread : ℕ) (call : CallState) (is : IsCore core)
   steady-act (Loosened found mark answer) stands knows = knows
   steady-act (Emptied answer) stands knows = plain≢ answer Contended knows refl
 
-pub act-is_call_step : (action : Action) → is_call_step (kind_of action) ≡ true
+pub act-is_call_step : (action : Action) → is_call_step (step_kind action) ≡ true
 act-is_call_step LookAtServer = refl
 act-is_call_step LookAtSlots = refl
 act-is_call_step (Exchange found mark) = by_exchange (λ it. is_call_step it ≡ true) refl refl refl found.mark mark

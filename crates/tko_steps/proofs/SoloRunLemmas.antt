@@ -12,10 +12,10 @@ use Rattle.tko_steps.specs.declared.phase.Phase.TheVariants.{Start}
 use Rattle.tko_steps.specs.declared.phase.Slots.{Slots}
 use Rattle.tko_steps.specs.declared.phase.ThreadState.{ThreadState}
 use Rattle.tko_steps.specs.declared.phase.ThreadState.TheVariants.{NotEnrolled, Idle, InCall}
-use Rattle.tko_steps.specs.Runs.{InEveryRun, Call, Moment, OwnStep, Took, World, and_step, began, begun_call, calls_of, own_step, run, start, with_step}
-use Rattle.tko_steps.specs.Alone.{InEveryRunAlone, IsIdleUnlessOf, IsStepOf, Replays}
+use Rattle.tko_steps.specs.Runs.{InEveryRun, RunCall, Moment, OwnStep, Took, World, and_step, began, begun_call, calls_of, own_step, run, start_world, with_step}
+use Rattle.tko_steps.specs.Alone.{InEveryRunAlone, IsIdleUnlessOf, IsStepOf, ReplaysCalls}
 use Rattle.tko_steps.specs.Core.{abstract_of, after_act, follows, thread_at, slots_at}
-use Rattle.tko_steps.specs.Steps.{begun_by, state_after}
+use Rattle.tko_steps.specs.Steps.{begun_by, decided_state}
 use Rattle.tko_steps.specs.Invariant.{holds}
 use Rattle.tko_steps.specs.Legal.{tracker_in}
 use Rattle.tko_steps.specs.Table.{action_of}
@@ -39,14 +39,14 @@ pub record HoldsAlone (s : Settings) (thread : ℕ) (w : World) : Type 0 where
   pub others : NoOtherHolds w.core thread
   pub steady : IsSteady w.core.settings (abstract_of w.core) w.core.shared.slots (thread_at w.core thread)
 
-HoldsAlone-start : (s : Settings) (thread : ℕ) → HoldsAlone s thread (start s)
+HoldsAlone-start : (s : Settings) (thread : ℕ) → HoldsAlone s thread (start_world s)
 HoldsAlone-start s thread =
     record {
       calls = All-nil (IsIdleUnlessOf thread);
       plain = All-nil IsNotContended;
       plays = refl;
       others = λ other apart. ap holds (get_or-replicate_same s.threads other NotEnrolled);
-      steady = let P : ThreadState → Type 0 = λ it. IsSteady s (opened s).servers (start s).core.shared.slots it in
+      steady = let P : ThreadState → Type 0 = λ it. IsSteady s (opened s).servers (start_world s).core.shared.slots it in
           subst P (sym (get_or-replicate_same s.threads thread NotEnrolled)) tt;
     }
 
@@ -76,7 +76,7 @@ steady-set s servers slots threads thread own new inside fresh steady =
 HoldsAlone-begun : (s : Settings) (w : World) (thread own number : ℕ) (op : Op) (server : ℕ) → HoldsBoth s w → HoldsAlone s thread w
     → own < length w.core.threads → thread_at w.core own ≡ Idle number → HoldsAlone s thread (begun w own op server)
 HoldsAlone-begun s w thread own number op server both kept inside stands =
-    let call : Call = begun_call own number op server in
+    let call : RunCall = begun_call own number op server in
     let new : ThreadState = InCall (begun_by number op server) Start in
     let calls = calls_of w.past in
     let first = (opened s).servers in
@@ -84,9 +84,9 @@ HoldsAlone-begun s w thread own number op server both kept inside stands =
     let after = begun w own op server in
     let is_call : calls_of after.past ≡ call ∷ calls = rw stands refl in
     let is_set : after.core.threads ≡ set w.core.threads own new = rw stands refl in
-    let I : List Call → Type 0 = λ all. All (IsIdleUnlessOf thread) all in
-    let N : List Call → Type 0 = λ all. All IsNotContended all in
-    let L : List Call → Type 0 = λ all. Plays s first thread all servers in
+    let I : List RunCall → Type 0 = λ all. All (IsIdleUnlessOf thread) all in
+    let N : List RunCall → Type 0 = λ all. All IsNotContended all in
+    let L : List RunCall → Type 0 = λ all. Plays s first thread all servers in
     let O : List ThreadState → Type 0 = λ all. (other : ℕ) → (other ≡ thread → ⊥) → holds (get_or all other NotEnrolled) ≡ false in
     let S : List ThreadState → Type 0 = λ all. IsSteady w.core.settings servers w.core.shared.slots (get_or all thread NotEnrolled) in
     let plays : Plays s first thread (call ∷ calls) servers =
@@ -116,9 +116,9 @@ HoldsAlone-enrolled s w thread own both kept inside stands =
     let step : OwnStep = own_step (enrol_step w.core own) w.past in
     let none : latest own calls ≡ None = rw stands at (both.1.stand own) in
     let same : with_step step calls ≡ calls = with_step-none step calls none in
-    let I : List Call → Type 0 = λ all. All (IsIdleUnlessOf thread) all in
-    let N : List Call → Type 0 = λ all. All IsNotContended all in
-    let L : List Call → Type 0 = λ all. Plays s (opened s).servers thread all (abstract_of w.core) in
+    let I : List RunCall → Type 0 = λ all. All (IsIdleUnlessOf thread) all in
+    let N : List RunCall → Type 0 = λ all. All IsNotContended all in
+    let L : List RunCall → Type 0 = λ all. Plays s (opened s).servers thread all (abstract_of w.core) in
     record {
       calls = subst I (sym same) kept.calls;
       plain = subst N (sym same) kept.plain;
@@ -141,18 +141,18 @@ HoldsAlone-act s w thread call phase both kept inside stands =
     (let P : ThreadState → Type 0 = IsSteady w.core.settings (abstract_of w.core) w.core.shared.slots in subst P stands kept.steady) in
     let next = steady-act w.core thread call both.0.core kept.others phase stands knows in
     let S : ThreadState → Type 0 = IsSteady w.core.settings (abstract_of new) new.shared.slots in
-    let now : get_or new.threads thread NotEnrolled ≡ state_after call decision =
-    get_or-set_same w.core.threads thread (state_after call decision) NotEnrolled inside in
+    let now : get_or new.threads thread NotEnrolled ≡ decided_state call decision =
+    get_or-set_same w.core.threads thread (decided_state call decision) NotEnrolled inside in
     record {
       calls = All-with_step (IsIdleUnlessOf thread) own calls kept.calls
           (λ it found. let same : open_one ≡ it = cc (found, mine.1) in
-          let Q : Call → Type 0 = λ at. IsIdleUnlessOf thread (and_step at own) in
+          let Q : RunCall → Type 0 = λ at. IsIdleUnlessOf thread (and_step at own) in
           subst Q same (λ apart. absurd (apart refl)));
       plain = All-with_step IsNotContended own calls kept.plain
           (λ it found. steady-plain w.core.settings call (abstract_of new) new.shared.slots decision next);
       plays = Plays-with_step s (opened s).servers thread own open_one calls (abstract_of w.core) refl refl mine.1 kept.plays;
       others = λ other apart.
-          ap holds (get_or-set_other w.core.threads thread other (state_after call decision) NotEnrolled apart) ∙ kept.others other apart;
+          ap holds (get_or-set_other w.core.threads thread other (decided_state call decision) NotEnrolled apart) ∙ kept.others other apart;
       steady = subst S (sym now) (steady-state w.core.settings call (abstract_of new) new.shared.slots decision next);
     }
 
@@ -183,7 +183,7 @@ Alone-run thread =
 pub HoldsAlone-run : InEveryRunAlone (λ s thread w. HoldsBoth s w × HoldsAlone s thread w)
 HoldsAlone-run s ranges thread turns all = (HoldsBoth-run s ranges turns, Alone-run thread s ranges turns all)
 
-pub Replays-run : InEveryRunAlone (λ s thread w. Replays (opened s) (calls_of w.past) (tracker_in s (abstract_of w.core)))
+pub Replays-run : InEveryRunAlone (λ s thread w. ReplaysCalls (opened s) (calls_of w.past) (tracker_in s (abstract_of w.core)))
 Replays-run s ranges thread turns all =
     let w = run s turns in
     let both = HoldsAlone-run s ranges thread turns all in

@@ -20,7 +20,7 @@ use Rattle.tko_steps.specs.declared.phase.Phase.TheVariants.{Read, AtThreshold, 
 use Rattle.tko_steps.specs.declared.table.Decision.{Decision}
 use Rattle.tko_steps.specs.declared.table.Decision.TheVariants.{Answers}
 use Rattle.tko_steps.specs.Core.{owner_of}
-use Rattle.tko_steps.specs.Invariant.{IsFoundBy, IsFresh, IsWrite}
+use Rattle.tko_steps.specs.Invariant.{IsFoundBy, IsUnmarkedUnworn, IsWrite}
 use Rattle.tko_steps.specs.Table.{from_start, goes, puts, sets_out}
 
 -- ---- replies
@@ -64,7 +64,7 @@ pub record IsPut (s : Settings) (number : ℕ) (found : ServerState) (mark : Mar
 -- what an operation does to a server that it finds like this, by whether there is room for one more soft mark
 pub data Row (s : Settings) (number : ℕ) (op : Op) (found : ServerState) (given : Bool → Transition) : Type 0 where
   Stays : (answer : Reply) → IsAnswer found.mark answer → ((room : Bool) → given room ≡ stays answer) → Row s number op found given
-  Takes : op ≡ SoftFailure → IsFresh found
+  Takes : op ≡ SoftFailure → IsUnmarkedUnworn found
       → ((room : Bool) → given room ≡ cond room (becomes (Soft number) reply.TookSoft) (stays reply.Full)) → Row s number op found given
   Reads : (mark : Mark) (answer : Reply) → IsPut s number found mark answer → CanRead op number found.mark → IsFoundBy number found found found.mark
       → ((room : Bool) → given room ≡ becomes mark answer) → Row s number op found given
@@ -223,7 +223,7 @@ unmarked-soft number now found (Hard owner) by = refl
 -- what holds of each thing that the look may lead to
 pub from_start-is : (s : Settings) (call : Call) (found : ServerState) (P : Decision → Type 0)
     → ((answer : Reply) → IsAnswer found.mark answer → Decides s call.number call.op found (stays answer) → P (Answers answer))
-    → (call.op ≡ SoftFailure → IsFresh found → Marks s call.number call.op found → P (goes call (AtThreshold found)))
+    → (call.op ≡ SoftFailure → IsUnmarkedUnworn found → Marks s call.number call.op found → P (goes call (AtThreshold found)))
     → ((mark : Mark) (answer : Reply) → IsPut s call.number found mark answer → CanRead call.op call.number found.mark
     → IsFoundBy call.number found found found.mark → Decides s call.number call.op found (becomes mark answer)
     → P (goes call (Read found mark answer)))

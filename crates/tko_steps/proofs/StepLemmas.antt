@@ -17,7 +17,7 @@ use Rattle.tko_steps.specs.declared.step.Stepped.{Stepped}
 use Rattle.tko_steps.specs.declared.step.Stepped.TheVariants as stepped
 use Rattle.tko_steps.specs.declared.step.Word.{Word}
 use Rattle.tko_steps.specs.Core.{CoreState, IsOnOneWord, IsPlace, Shared, found_by, follows, no_slots, seen_by, shared_after, slots_at, soft_words_after, reported_by_act, word_at}
-use Rattle.tko_steps.specs.Steps.{answer_of, is_done, kind_of, place_of, server_written, slots_after, slots_written, word_after, writes}
+use Rattle.tko_steps.specs.Steps.{decided_answer, is_done, place_of, server_written, slots_after, slots_written, step_kind, word_after, writes}
 use Rattle.tko_steps.specs.Table.{action_of, same_server, same_slots}
 use Rattle.tko_steps.proofs.CountLemmas.{unread}
 
@@ -92,15 +92,15 @@ abbrev pub reported : CoreState → Call → Phase → Stepped
 reported core call phase =
     let act = action_of call.number phase in
     let at = place_of core.settings call.server act in
-    stepped.Did (kind_of act) at (word_at core.shared at) (word_at (shared_after core.settings core.shared call.server act) at)
-    (is_done (seen_by core.settings core.shared call.server act)) (answer_of (follows core call phase))
+    stepped.Did (step_kind act) at (word_at core.shared at) (word_at (shared_after core.settings core.shared call.server act) at)
+    (is_done (seen_by core.settings core.shared call.server act)) (decided_answer (follows core call phase))
 
 pub reported-is : (core : CoreState) (call : Call) (phase : Phase) → IsPlace core.shared (place_of core.settings call.server (action_of call.number phase))
     → reported core call phase ≡ reported_by_act core call phase
 reported-is core call phase there =
     let act = action_of call.number phase in
     ap (λ (left : Word).
-    stepped.Did (kind_of act) (place_of core.settings call.server act) (found_by core call phase) left (is_done (seen_by core.settings core.shared call.server act)) (answer_of (follows core call phase)))
+    stepped.Did (step_kind act) (place_of core.settings call.server act) (found_by core call phase) left (is_done (seen_by core.settings core.shared call.server act)) (decided_answer (follows core call phase)))
     (left-is core.settings core.shared call.server act there)
 
 -- ---- the places of the words stay

@@ -17,7 +17,7 @@ use Rattle.tko_steps.specs.declared.phase.Slots.{Slots}
 use Rattle.tko_steps.specs.declared.table.Decision.{Decision}
 use Rattle.tko_steps.specs.declared.table.Decision.TheVariants.{Goes, Answers}
 use Rattle.tko_steps.specs.Core.{owner_of}
-use Rattle.tko_steps.specs.Steps.{state_after}
+use Rattle.tko_steps.specs.Steps.{decided_state}
 use Rattle.tko_steps.specs.Invariant.{IsPhase, holds, is_loose}
 use Rattle.tko_steps.specs.Table.{at_limit, at_threshold, from_start, goes, lost_try, same_mark, same_server, same_slots}
 use Rattle.tko_steps.proofs.StartLemmas.{from_start-is}
@@ -71,8 +71,8 @@ IsDecided s call now (Answers answer) = Unit {0}
 -- it also holds no slot
 pub record IsCalm (s : Settings) (call : Call) (now : ServerState) (decision : Decision) : Type 0 where
   pub decided : IsDecided s call now decision
-  pub holds : holds (state_after call decision) ≡ false
-  pub loose : is_loose (state_after call decision) ≡ false
+  pub holds : holds (decided_state call decision) ≡ false
+  pub loose : is_loose (decided_state call decision) ≡ false
 
 pub IsCalm-answers : (s : Settings) (call : Call) (now : ServerState) (answer : Reply) → IsCalm s call now (Answers answer)
 IsCalm-answers s call now answer = record { decided = tt; holds = refl; loose = refl }

@@ -6,10 +6,10 @@ use Rattle.std.proofs.lemmas.List.{get_or_past}
 use Rattle.std.proofs.lemmas.List.Sums.{count_by-le-length}
 use Rattle.tko_steps.specs.declared.phase.ThreadState.{ThreadState}
 use Rattle.tko_steps.specs.declared.phase.ThreadState.TheVariants.{NotEnrolled, Idle, InCall}
-use Rattle.tko_steps.specs.Core.{has_number, is_enrolled, number_of}
+use Rattle.tko_steps.specs.Core.{drawn_number, has_number, is_enrolled}
 use Rattle.tko_steps.proofs.CountLemmas.{bit, bit-le-count_by, count_by-set}
 
-pub has_number-from : (state : ThreadState) (number : ℕ) → number_of state ≡ Some number → has_number number state ≡ true
+pub has_number-from : (state : ThreadState) (number : ℕ) → drawn_number state ≡ Some number → has_number number state ≡ true
 has_number-from NotEnrolled number e = cc
 has_number-from (Idle own) number e = eq-eqb own number cc
 has_number-from (InCall call phase) number e = eq-eqb call.number number cc
@@ -28,7 +28,7 @@ below_from_bit a b h = grind (arith, nat_tests)
 
 -- a thread's number is below the count
 pub number-lt : (threads : List ThreadState) (enrolled thread number : ℕ) → OneEach enrolled threads → thread < length threads
-    → number_of (get_or threads thread NotEnrolled) ≡ Some number → number < enrolled
+    → drawn_number (get_or threads thread NotEnrolled) ≡ Some number → number < enrolled
 number-lt threads enrolled thread number each inside named =
     let has = has_number-from (get_or threads thread NotEnrolled) number named in
     let one = one-le-count_by (has_number number) threads thread NotEnrolled inside has in
@@ -49,7 +49,7 @@ at_most_one a b h = grind (arith, nat_tests)
 -- no two threads have one number
 pub number-once : (threads : List ThreadState) (enrolled one other number : ℕ) → OneEach enrolled threads
     → one < length threads → other < length threads
-    → number_of (get_or threads one NotEnrolled) ≡ Some number → number_of (get_or threads other NotEnrolled) ≡ Some number
+    → drawn_number (get_or threads one NotEnrolled) ≡ Some number → drawn_number (get_or threads other NotEnrolled) ≡ Some number
     → other ≡ one
 number-once threads enrolled one other number each in_one in_other named_one named_other =
     ⊎_elim (λ same. same) (λ apart.
@@ -100,8 +100,8 @@ enrolled-lt threads thread inside stands =
 
 -- a thread that has a number is there
 pub number-inside : (threads : List ThreadState) (thread number : ℕ)
-    → number_of (get_or threads thread NotEnrolled) ≡ Some number → thread < length threads
+    → drawn_number (get_or threads thread NotEnrolled) ≡ Some number → thread < length threads
 number-inside threads thread number named =
     ⊎_elim (λ inside. inside)
-    (λ past. let e = ap number_of (get_or_past threads thread NotEnrolled past) in cc)
+    (λ past. let e = ap drawn_number (get_or_past threads thread NotEnrolled past) in cc)
     (cases_lt thread (length threads))

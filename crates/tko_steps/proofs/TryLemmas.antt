@@ -4,8 +4,8 @@ use Rattle.std.proofs.lemmas.Bool.{cond-false, cond-true}
 use Rattle.tko_model.specs.declared.mark.Mark.{Mark}
 use Rattle.tko_model.specs.declared.mark.Mark.TheVariants.{Up, Soft, Hard}
 use Rattle.tko_model.specs.Settings.{Settings}
-use Rattle.tko_steps.specs.declared.step.Kind.{Kind}
-use Rattle.tko_steps.specs.declared.step.Kind.TheVariants as kind
+use Rattle.tko_steps.specs.declared.step.StepKind.{StepKind}
+use Rattle.tko_steps.specs.declared.step.StepKind.TheVariants as kind
 use Rattle.tko_steps.specs.declared.step.Place.{Place}
 use Rattle.tko_steps.specs.declared.step.Word.{Word}
 use Rattle.tko_steps.specs.Steps.{kind_of_exchange}
@@ -13,7 +13,7 @@ use Rattle.tko_steps.specs.Lost.{holds_after, holds_slot, is_exchange, is_give, 
 use Rattle.tko_steps.specs.Runs.{OwnStep, StepTaken}
 
 -- what holds of a count, a mark and an own step holds of each exchange of a server's word
-pub by_exchange : (P : Kind → Type 0) → P kind.Count → P kind.Mark → P kind.Own → (old new : Mark) → P (kind_of_exchange old new)
+pub by_exchange : (P : StepKind → Type 0) → P kind.Count → P kind.Mark → P kind.Own → (old new : Mark) → P (kind_of_exchange old new)
 by_exchange P counts marks own (Up a) (Up b) = counts
 by_exchange P counts marks own (Up a) (Soft b) = marks
 by_exchange P counts marks own (Up a) (Hard b) = marks

@@ -10,7 +10,7 @@ use Rattle.tko_steps.specs.declared.phase.ThreadState.{ThreadState}
 use Rattle.tko_steps.specs.declared.phase.ThreadState.TheVariants.{NotEnrolled, Idle, InCall}
 use Rattle.tko_steps.specs.Core.{CoreState, abstract_of, after_step_from, begin_fault, fault_at, thread_at, reported_from, unless_fault, with_thread}
 use Rattle.tko_steps.specs.Steps.{in_call}
-use Rattle.tko_steps.specs.Runs.{Begin, Step, Turn, World, after_turns, began, happens, run, start, with_reported}
+use Rattle.tko_steps.specs.Runs.{Begin, Step, Turn, World, after_turns, began, happens, run, start_world, with_reported}
 
 -- the world once a call of an idle thread began
 abbrev pub begun : World → ℕ → Op → ℕ → World
@@ -83,4 +83,4 @@ after_turns-push w [] turn = refl
 after_turns-push w (first ∷ turns) turn = after_turns-push (happens w first) turns turn
 
 pub run-push : (s : Settings) (turns : List Turn) (turn : Turn) → run s (turns ++ turn ∷ []) ≡ happens (run s turns) turn
-run-push s turns turn = after_turns-push (start s) turns turn
+run-push s turns turn = after_turns-push (start_world s) turns turn

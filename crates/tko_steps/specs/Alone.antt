@@ -6,8 +6,8 @@ use Rattle.tko_model.specs.Settings.{Settings}
 use Rattle.tko_model.specs.Ranges.{IsWithinRanges}
 use Rattle.tko_model.specs.Tracker.{Tracker, after, reply_of}
 use Rattle.tko_steps.specs.Core.{is_call_step}
-use Rattle.tko_steps.specs.Legal.{IsQuiet}
-use Rattle.tko_steps.specs.Runs.{Turn, Began, Call, Moment, Took, World, run}
+use Rattle.tko_steps.specs.Legal.{ChangesNothing}
+use Rattle.tko_steps.specs.Runs.{Turn, Began, RunCall, Moment, Took, World, run}
 
 -- this moment, if it is a step of a call, is one of the thread at this place
 abbrev pub IsStepOf : ℕ → Moment → Type 0
@@ -22,23 +22,23 @@ InEveryRunAlone P =
     All (IsStepOf thread) (run s turns).past → P s thread (run s turns)
 
 -- a call of another thread took no step and has no answer
-abbrev pub IsIdleUnlessOf : ℕ → Call → Type 0
+abbrev pub IsIdleUnlessOf : ℕ → RunCall → Type 0
 IsIdleUnlessOf thread call = (call.thread ≡ thread → ⊥) → (call.steps ≡ []) × (call.answer ≡ None)
 
 -- the sequential tracker before and after a call with this answer: an answered call is its
 -- operation, with that reply; an open call is its operation where one of its steps changed the
 -- abstract state, and nothing where none did
-abbrev pub Does : Tracker → Call → Option Reply → Tracker → Type 0
+abbrev pub Does : Tracker → RunCall → Option Reply → Tracker → Type 0
 Does old call (Some reply) new =
     (reply ≡ reply_of old call.number call.op call.server)
     × (new ≡ after old call.number call.op call.server)
 Does old call None new =
-    (All IsQuiet call.steps × (new ≡ old))
-    ⊎ ((All IsQuiet call.steps → ⊥) × (new ≡ after old call.number call.op call.server))
+    (All ChangesNothing call.steps × (new ≡ old))
+    ⊎ ((All ChangesNothing call.steps → ⊥) × (new ≡ after old call.number call.op call.server))
 
 -- from the first tracker to the last, the sequential tracker does these calls, the newest first, in
 -- the order of their begins
-abbrev pub Replays : Tracker → List Call → Tracker → Type 0
-Replays first [] last = last ≡ first
-Replays first (call ∷ older) last =
-    (mid : Tracker) × Replays first older mid × Does mid call call.answer last
+abbrev pub ReplaysCalls : Tracker → List RunCall → Tracker → Type 0
+ReplaysCalls first [] last = last ≡ first
+ReplaysCalls first (call ∷ older) last =
+    (mid : Tracker) × ReplaysCalls first older mid × Does mid call call.answer last

@@ -20,15 +20,15 @@ use Rattle.tko_steps.specs.declared.phase.Phase.{Phase}
 use Rattle.tko_steps.specs.declared.phase.Slots.{Slots}
 use Rattle.tko_steps.specs.declared.phase.ThreadState.{ThreadState}
 use Rattle.tko_steps.specs.declared.phase.ThreadState.TheVariants.{NotEnrolled, Idle, InCall}
-use Rattle.tko_steps.specs.declared.step.Kind.{Kind}
-use Rattle.tko_steps.specs.declared.step.Kind.TheVariants as kind
+use Rattle.tko_steps.specs.declared.step.StepKind.{StepKind}
+use Rattle.tko_steps.specs.declared.step.StepKind.TheVariants as kind
 use Rattle.tko_steps.specs.declared.step.Place.{Place}
 use Rattle.tko_steps.specs.declared.step.Place.TheVariants as place
 use Rattle.tko_steps.specs.declared.step.Stepped.{Stepped}
 use Rattle.tko_steps.specs.declared.step.Stepped.TheVariants as stepped
 use Rattle.tko_steps.specs.declared.step.Word.{Word}
 use Rattle.tko_steps.specs.declared.step.Word.TheVariants as word
-use Rattle.tko_steps.specs.Steps.{decided_by, in_call, place_of, seen_in, server_written, slots_written, state_after, reported_by, word_after, writes}
+use Rattle.tko_steps.specs.Steps.{decided_by, in_call, place_of, seen_in, server_written, slots_written, decided_state, reported_by, word_after, writes}
 use Rattle.tko_steps.specs.Table.{action_of}
 
 -- what the words hold: each server's mark and stamp, the counts of each group's soft word, and how
@@ -49,7 +49,7 @@ abbrev pub abstract_of : CoreState → List ServerState
 abstract_of core = core.shared.servers
 
 -- whether a step of this kind is one of a call
-abbrev pub is_call_step : Kind → Bool
+abbrev pub is_call_step : StepKind → Bool
 is_call_step kind.Enrol = false
 is_call_step _ = true
 
@@ -62,10 +62,10 @@ abbrev pub thread_at : CoreState → ℕ → ThreadState
 thread_at core thread = slice_index_or core.threads thread NotEnrolled
 
 -- the number that a thread drew
-abbrev pub number_of : ThreadState → Option ℕ
-number_of NotEnrolled = None
-number_of (Idle number) = Some number
-number_of (InCall call phase) = Some call.number
+abbrev pub drawn_number : ThreadState → Option ℕ
+drawn_number NotEnrolled = None
+drawn_number (Idle number) = Some number
+drawn_number (InCall call phase) = Some call.number
 
 -- a soft word with no slot taken
 abbrev pub no_slots : Slots
@@ -218,7 +218,7 @@ after_act core thread call phase =
     record {
       settings = core.settings;
       shared = shared_after core.settings core.shared call.server (action_of call.number phase);
-      threads = slice_set core.threads thread (state_after call (follows core call phase));
+      threads = slice_set core.threads thread (decided_state call (follows core call phase));
     }
 
 -- what that step reports

@@ -3,7 +3,7 @@ use Rattle.std.specs.Prelude.{◌≡◌, ℕ, ◌+◌, ◌*◌, ◌<◌, ◌≤�
 use Rattle.tko_model.specs.declared.mark.Op.{Op}
 use Rattle.tko_model.specs.declared.mark.Op.TheVariants.{LookUp, SoftFailure, HardFailure, Success, Release}
 use Rattle.tko_model.specs.Settings.{Settings}
-use Rattle.tko_steps.specs.Runs.{Call}
+use Rattle.tko_steps.specs.Runs.{RunCall}
 
 -- the most steps of a call of this operation: a try of a soft failure takes five, one of a hard
 -- failure or a success two, and the try that gives up the thread's own soft mark four
@@ -15,7 +15,7 @@ most_steps s Success = 2 * s.tries + 2
 most_steps s Release = 4
 
 -- a call took no more, and an open call took fewer
-abbrev pub IsShort : Settings → Call → Type 0
+abbrev pub IsShort : Settings → RunCall → Type 0
 IsShort s call =
     (length call.steps ≤ most_steps s call.op)
     × (call.answer ≡ None → length call.steps < most_steps s call.op)

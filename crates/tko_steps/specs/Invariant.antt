@@ -60,8 +60,8 @@ pub record IsWrite (s : Settings) (number : ℕ) (found : ServerState) (mark : M
   pub own : IsOwnOrUp number mark
 
 -- what was found unmarked, and is not worn
-abbrev pub IsFresh : ServerState → Type 0
-IsFresh found = (owner_of found.mark ≡ None) × (found.stamp < worn)
+abbrev pub IsUnmarkedUnworn : ServerState → Type 0
+IsUnmarkedUnworn found = (owner_of found.mark ≡ None) × (found.stamp < worn)
 
 -- what a write found: an unmarked server, or the thread's own hard mark, which still stands
 abbrev pub IsFoundBy : ℕ → ServerState → ServerState → Mark → Type 0
@@ -74,11 +74,11 @@ abbrev pub IsPhase : Settings → Call → ServerState → Phase → Type 0
 IsPhase s call now Start = Unit {0}
 IsPhase s call now (Read found mark answer) =
     IsWrite s call.number found mark × IsFoundBy call.number now found found.mark
-IsPhase s call now (AtThreshold found) = IsFresh found
-IsPhase s call now (Limit found) = IsFresh found
+IsPhase s call now (AtThreshold found) = IsUnmarkedUnworn found
+IsPhase s call now (Limit found) = IsUnmarkedUnworn found
 IsPhase s call now (Reserving found slots) =
-    IsFresh found × (slots.firm + slots.held < limit_at s call.server)
-IsPhase s call now (Holding found) = IsFresh found
+    IsUnmarkedUnworn found × (slots.firm + slots.held < limit_at s call.server)
+IsPhase s call now (Holding found) = IsUnmarkedUnworn found
 IsPhase s call now Firming = now.mark ≡ Soft call.number
 IsPhase s call now Losing = Unit {0}
 IsPhase s call now (Loosening found mark answer) =

@@ -6,18 +6,18 @@ use Rattle.tko_steps.specs.declared.phase.Phase.{Phase}
 use Rattle.tko_steps.specs.declared.phase.Phase.TheVariants.{Start, Read, AtThreshold, Limit, Reserving, Holding, Firming, Losing, Loosening, Loosened, Emptied}
 use Rattle.tko_steps.specs.declared.phase.ThreadState.{ThreadState}
 use Rattle.tko_steps.specs.declared.phase.ThreadState.TheVariants.{InCall}
-use Rattle.tko_steps.specs.declared.step.Kind.{Kind}
-use Rattle.tko_steps.specs.declared.step.Kind.TheVariants as kind
+use Rattle.tko_steps.specs.declared.step.StepKind.{StepKind}
+use Rattle.tko_steps.specs.declared.step.StepKind.TheVariants as kind
 use Rattle.tko_steps.specs.Core.{CoreState}
 use Rattle.tko_steps.specs.Runs.{Began, Moment, Took}
-use Rattle.tko_steps.specs.Steps.{kind_of}
+use Rattle.tko_steps.specs.Steps.{step_kind}
 use Rattle.tko_steps.specs.Table.{action_of}
 
 -- The table of phases.
 
 -- the step from the phase Read, of a thread with this number: a count leaves an unmarked server
 -- unmarked, a mark makes it the thread's hard mark, and an own step changes the thread's hard mark
-abbrev pub IsReadKind : ℕ → Mark → Mark → Kind → Type 0
+abbrev pub IsReadKind : ℕ → Mark → Mark → StepKind → Type 0
 IsReadKind number (Up old) (Up count) step = step ≡ kind.Count
 IsReadKind number (Up old) (Soft thread) step = ⊥
 IsReadKind number (Up old) (Hard thread) step = (step ≡ kind.Mark) × (thread ≡ number)
@@ -31,7 +31,7 @@ IsClearedOrHard number (Soft thread) = ⊥
 IsClearedOrHard number (Hard thread) = thread ≡ number
 
 -- a call at this phase, of a thread with this number, takes a step of this kind
-abbrev pub IsKindAt : ℕ → Phase → Kind → Type 0
+abbrev pub IsKindAt : ℕ → Phase → StepKind → Type 0
 IsKindAt number Start step = step ≡ kind.Look
 IsKindAt number (Read found mark answer) step = IsReadKind number found.mark mark step
 IsKindAt number (AtThreshold found) step = step ≡ kind.Look
@@ -47,7 +47,7 @@ IsKindAt number (Emptied answer) step = step ≡ kind.Give
 
 -- the step that a thread takes next, if it has a call, is of the kind of its phase
 abbrev pub HasKind : ThreadState → Type 0
-HasKind (InCall call phase) = IsKindAt call.number phase (kind_of (action_of call.number phase))
+HasKind (InCall call phase) = IsKindAt call.number phase (step_kind (action_of call.number phase))
 HasKind state = Unit {0}
 
 abbrev pub HaveKinds : CoreState → Type 0
@@ -57,7 +57,7 @@ HaveKinds core = All HasKind core.threads
 
 -- whether a step of this kind can be lost to another thread: one that exchanges a word which others
 -- may change
-abbrev pub can_be_lost : Kind → Bool
+abbrev pub can_be_lost : StepKind → Bool
 can_be_lost kind.Count = true
 can_be_lost kind.Mark = true
 can_be_lost kind.Reserve = true

@@ -4,23 +4,23 @@ use Rattle.std.specs.Prelude.{◌≡◌, ◌≢◌, ℕ, ◌+◌, Bool, true, fa
 use Rattle.tko_model.specs.declared.mark.Reply.TheVariants.{Contended}
 use Rattle.tko_model.specs.Settings.{Settings}
 use Rattle.tko_model.specs.Groups.{limit_of}
-use Rattle.tko_steps.specs.declared.step.Kind.{Kind}
-use Rattle.tko_steps.specs.declared.step.Kind.TheVariants as kind
+use Rattle.tko_steps.specs.declared.step.StepKind.{StepKind}
+use Rattle.tko_steps.specs.declared.step.StepKind.TheVariants as kind
 use Rattle.tko_steps.specs.declared.step.Place.{Place}
 use Rattle.tko_steps.specs.declared.step.Place.TheVariants as place
 use Rattle.tko_steps.specs.declared.step.Word.{Word}
 use Rattle.tko_steps.specs.declared.step.Word.TheVariants as word
-use Rattle.tko_steps.specs.Runs.{Step, Began, Call, Moment, OwnStep, StepTaken, Took, World, calls_of, happens}
+use Rattle.tko_steps.specs.Runs.{Step, Began, RunCall, Moment, OwnStep, StepTaken, Took, World, calls_of, happens}
 use Rattle.tko_steps.specs.Core.{CoreState, thread_at}
 use Rattle.tko_steps.specs.Invariant.{holds_in}
 use Rattle.tko_steps.specs.Table.{same_server, same_slots}
 
-abbrev pub is_look : Kind → Bool
+abbrev pub is_look : StepKind → Bool
 is_look kind.Look = true
 is_look other = false
 
 -- whether a step of this kind expects a word, and is lost where it finds another
-abbrev pub is_exchange : Kind → Bool
+abbrev pub is_exchange : StepKind → Bool
 is_exchange kind.Count = true
 is_exchange kind.Mark = true
 is_exchange kind.Own = true
@@ -89,7 +89,7 @@ last_look s at (own ∷ older) =
 
 -- whether a call that did or didn't hold a slot holds one after a step of this kind: a reservation
 -- that is won takes one, a shift turns it into a settled mark or back, and a give returns it
-abbrev pub holds_after : Kind → Bool → Bool → Bool
+abbrev pub holds_after : StepKind → Bool → Bool → Bool
 holds_after kind.Reserve won held = won || held
 holds_after kind.Shift won held = not held
 holds_after kind.Give won held = false
@@ -100,7 +100,7 @@ abbrev pub holds_slot : List OwnStep → Bool
 holds_slot [] = false
 holds_slot (own ∷ older) = holds_after own.step.kind own.step.won (holds_slot older)
 
-abbrev pub is_give : Kind → Bool
+abbrev pub is_give : StepKind → Bool
 is_give kind.Give = true
 is_give other = false
 
@@ -128,7 +128,7 @@ lost_tries s [] = 0
 lost_tries s (own ∷ older) = lost_tries s older + (if counts_try s own older then 1 else 0)
 
 -- a call that is answered Contended lost exactly as many tries as the settings allow
-abbrev pub HasLostEachTry : Settings → Call → Type 0
+abbrev pub HasLostEachTry : Settings → RunCall → Type 0
 HasLostEachTry s call = call.answer ≡ Some Contended → lost_tries s call.steps ≡ s.tries
 
 -- an exchange is won exactly where it finds the word that this try's last look there found, and no
@@ -170,7 +170,7 @@ pub record IsSlotOfOther (core : CoreState) (thread group : ℕ) : Type 0 where
   pub holds : holds_in core.settings group (thread_at core holder) ≡ true
 
 -- the own steps of the call that this thread began last
-abbrev pub newest_steps : ℕ → List Call → List OwnStep
+abbrev pub newest_steps : ℕ → List RunCall → List OwnStep
 newest_steps thread [] = []
 newest_steps thread (call ∷ calls) =
     if call.thread == thread then call.steps else newest_steps thread calls

@@ -6,9 +6,9 @@ use Rattle.tko_model.specs.Settings.{Settings}
 use Rattle.tko_model.specs.declared.state.ServerState.{ServerState}
 use Rattle.tko_model.specs.Groups.{groups, limit_of}
 use Rattle.tko_model.specs.Tracker.{softs_in}
-use Rattle.tko_steps.specs.Core.{IsOwner, CoreState, abstract_of, has_number, number_of, thread_at}
+use Rattle.tko_steps.specs.Core.{IsOwner, CoreState, abstract_of, has_number, drawn_number, thread_at}
 use Rattle.tko_steps.specs.Invariant.{firm_at, held_at, holds_in, is_loose_in}
-use Rattle.tko_steps.specs.Runs.{World, owns}
+use Rattle.tko_steps.specs.Runs.{World, owns_in_past}
 
 -- the soft word and the soft marks of a group
 pub record CountsSlots (core : CoreState) (group : ℕ) : Type 0 where
@@ -42,13 +42,14 @@ HasDistinctNumbers core =
 -- the thread of this place is responsible for the server: the server's mark names its number
 pub record IsResponsible (core : CoreState) (thread server : ℕ) : Type 0 where
   pub number : ℕ
-  pub enrolled : number_of (thread_at core thread) ≡ Some number
+  pub enrolled : drawn_number (thread_at core thread) ≡ Some number
   pub marked : IsOwner (abstract_of core) number server
 
 -- a thread owns exactly the servers that it is responsible for
 abbrev pub OwnsItsMarks : World → Type 0
 OwnsItsMarks w =
-    (thread server : ℕ) → (owns w.past thread server ≡ true) ↔ IsResponsible w.core thread server
+    (thread server : ℕ) → (owns_in_past w.past thread server ≡ true)
+    ↔ IsResponsible w.core thread server
 
 -- no two threads are responsible for one server
 abbrev pub HasOneResponsible : CoreState → Type 0

@@ -21,8 +21,8 @@ use Rattle.tko_steps.specs.declared.phase.Phase.TheVariants.{Start}
 use Rattle.tko_steps.specs.declared.phase.Slots.{Slots}
 use Rattle.tko_steps.specs.declared.phase.ThreadState.{ThreadState}
 use Rattle.tko_steps.specs.declared.phase.ThreadState.TheVariants.{NotEnrolled, Idle, InCall}
-use Rattle.tko_steps.specs.declared.step.Kind.{Kind}
-use Rattle.tko_steps.specs.declared.step.Kind.TheVariants as kind
+use Rattle.tko_steps.specs.declared.step.StepKind.{StepKind}
+use Rattle.tko_steps.specs.declared.step.StepKind.TheVariants as kind
 use Rattle.tko_steps.specs.declared.step.Place.{Place}
 use Rattle.tko_steps.specs.declared.step.Place.TheVariants as place
 use Rattle.tko_steps.specs.declared.step.Stepped.{Stepped}
@@ -32,19 +32,19 @@ use Rattle.tko_steps.specs.declared.step.Word.TheVariants as word
 use Rattle.tko_steps.specs.Table.{action_of, next_of, same_server, same_slots}
 
 -- the kind of an exchange of a health word
-abbrev pub kind_of_exchange : Mark → Mark → Kind
+abbrev pub kind_of_exchange : Mark → Mark → StepKind
 kind_of_exchange (mark.Up count) (mark.Up other) = kind.Count
 kind_of_exchange (mark.Up count) new = kind.Mark
 kind_of_exchange old new = kind.Own
 
-abbrev pub kind_of : Action → Kind
-kind_of LookAtServer = kind.Look
-kind_of LookAtSlots = kind.Look
-kind_of (Exchange found new) = kind_of_exchange found.mark new
-kind_of (Reserve slots) = kind.Reserve
-kind_of Settle = kind.Shift
-kind_of Loosen = kind.Shift
-kind_of Give = kind.Give
+abbrev pub step_kind : Action → StepKind
+step_kind LookAtServer = kind.Look
+step_kind LookAtSlots = kind.Look
+step_kind (Exchange found new) = kind_of_exchange found.mark new
+step_kind (Reserve slots) = kind.Reserve
+step_kind Settle = kind.Shift
+step_kind Loosen = kind.Shift
+step_kind Give = kind.Give
 
 -- the word that a step of a call on this server is on: the server's, or the soft word of its group
 abbrev pub place_of : Settings → ℕ → Action → Place
@@ -107,13 +107,13 @@ is_done (seen.Done won) = won
 -- The thread of a step.
 
 -- the state of the thread once its step was decided
-abbrev pub state_after : Call → Decision → ThreadState
-state_after call (Goes lost phase) = InCall (record call { lost = lost }) phase
-state_after call (Answers reply) = Idle call.number
+abbrev pub decided_state : Call → Decision → ThreadState
+decided_state call (Goes lost phase) = InCall (record call { lost = lost }) phase
+decided_state call (Answers reply) = Idle call.number
 
-abbrev pub answer_of : Decision → Option Reply
-answer_of (Goes lost phase) = None
-answer_of (Answers reply) = Some reply
+abbrev pub decided_answer : Decision → Option Reply
+decided_answer (Goes lost phase) = None
+decided_answer (Answers reply) = Some reply
 
 -- what follows the step of a call at this phase which finds this word
 abbrev pub decided_by : Settings → Call → Phase → Word → Decision
@@ -121,19 +121,19 @@ decided_by s call phase found = next_of s call phase (seen_in (action_of call.nu
 
 -- the state of its thread then
 abbrev pub thread_after : Settings → Call → Phase → Word → ThreadState
-thread_after s call phase found = state_after call (decided_by s call phase found)
+thread_after s call phase found = decided_state call (decided_by s call phase found)
 
 -- what that step reports
 abbrev pub reported_by : Settings → Call → Phase → Word → Stepped
 reported_by s call phase found =
     let act = action_of call.number phase in
     stepped.Did
-    (kind_of act)
+    (step_kind act)
     (place_of s call.server act)
     found
     (word_after act found)
     (is_done (seen_in act found))
-    (answer_of (decided_by s call phase found))
+    (decided_answer (decided_by s call phase found))
 
 -- a call that begins: no try is lost yet
 abbrev pub begun_by : ℕ → Op → ℕ → Call
@@ -155,7 +155,7 @@ first_look s number op server found =
 abbrev pub after_first_look : Settings → ThreadState → Op → ℕ → ServerState → ThreadState
 after_first_look s NotEnrolled op server found = NotEnrolled
 after_first_look s (Idle number) op server found =
-    state_after (begun_by number op server) (first_look s number op server found)
+    decided_state (begun_by number op server) (first_look s number op server found)
 after_first_look s (InCall call phase) op server found = InCall call phase
 
 -- The servers that a thread owns.
@@ -176,7 +176,7 @@ is_server server place = false
 
 -- whether a thread that did or didn't own a server owns it after a step of its own on that server's
 -- word: a mark that it won adds it, and an own step takes it away unless it leaves a mark
-abbrev pub owns_after : Kind → Bool → Word → Bool → Bool
+abbrev pub owns_after : StepKind → Bool → Word → Bool → Bool
 owns_after kind.Mark won left owned = if won then true else owned
 owns_after kind.Own won left owned = if won then is_marked left else owned
 owns_after kind won left owned = owned
@@ -188,5 +188,5 @@ owned_after s call phase found owned server =
     let act = action_of call.number phase in
     if is_server server (place_of s call.server act)
     then
-    owns_after (kind_of act) (is_done (seen_in act found)) (word_after act found) (owned server)
+    owns_after (step_kind act) (is_done (seen_in act found)) (word_after act found) (owned server)
     else owned server

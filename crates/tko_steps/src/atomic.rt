@@ -2,8 +2,8 @@
 ghost use Rattle.std.specs.Prelude.{◌≡◌, ◌<◌, ◌↔◌, Some, OnOk, OnErr, IfOk, length};
 ghost use Rattle.tko_model.specs.Ranges.{first_fault};
 
-use crate::words::Words;
-use crate::{BeginFault, Call, Kind, Phase, Place, Stepped, ThreadState, Word, next};
+use crate::words::CoreWords;
+use crate::{BeginFault, Call, Phase, Place, StepKind, Stepped, ThreadState, Word, next};
 use std::alloc::Global;
 use std::marker::Model;
 use tko_model::{Op, OpenFault, Settings, SettingsFault};
@@ -12,7 +12,7 @@ use tko_model::{Op, OpenFault, Settings, SettingsFault};
 #[derive(Drop)]
 pub struct Core {
     settings: Settings,
-    words: Words,
+    words: CoreWords,
     threads: Vec<ThreadState>,
 }
 
@@ -48,7 +48,7 @@ impl Core {
         if let Err(fault) = settings.check() {
             return Err(OpenFault::Settings(fault));
         }
-        let words = Words::open(alloc, &settings)?;
+        let words = CoreWords::open(alloc, &settings)?;
         let threads = vec![in alloc; ThreadState::NotEnrolled; settings.threads as usize]?;
         Ok(Core {
             settings,
@@ -116,7 +116,7 @@ impl Core {
         let number = self.words.enrol() as u32;
         self.threads[thread] = ThreadState::Idle { number };
         Stepped::Did {
-            kind: Kind::Enrol,
+            kind: StepKind::Enrol,
             place: Place::Enrolment,
             found: Word::Enrolled(number),
             left: Word::Enrolled(number + 1),

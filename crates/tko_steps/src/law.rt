@@ -2,7 +2,7 @@
 ghost use Rattle.std.specs.Prelude.{◌≡◌, ◌≢◌, ℕ, Some, All};
 ghost use Rattle.tko_model.specs.Settings.{Settings};
 ghost use Rattle.tko_model.specs.Tracker.{opened};
-ghost use Rattle.tko_steps.specs.Alone.{InEveryRunAlone, IsIdleUnlessOf, Replays};
+ghost use Rattle.tko_steps.specs.Alone.{InEveryRunAlone, IsIdleUnlessOf, ReplaysCalls};
 ghost use Rattle.tko_steps.specs.Core.{IsOnOneWord, Shared, abstract_of, settings_of};
 ghost use Rattle.tko_steps.specs.Cost.{IsShort};
 ghost use Rattle.tko_steps.specs.Invariant.{IsCore};
@@ -66,7 +66,7 @@ pub fn every_run()
 pub fn one_thread_alone()
     ensures calls { InEveryRunAlone (λ s thread w. All (IsIdleUnlessOf thread) (calls_of w.past)) }
     ensures replies { InEveryRunAlone (λ s thread w.
-        Replays (opened s) (calls_of w.past) (tracker_in s (abstract_of w.core))) }
+        ReplaysCalls (opened s) (calls_of w.past) (tracker_in s (abstract_of w.core))) }
     ensures contended { InEveryRunAlone (λ s thread w.
         All (λ call. call.answer ≢ Some Reply.Contended) (calls_of w.past)) }
 {}

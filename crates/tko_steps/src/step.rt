@@ -6,7 +6,7 @@ use tko_model::{Reply, ServerState};
 
 /// What a step does.
 #[derive(Clone, Copy, Debug, PartialEq, Eq)]
-pub enum Kind {
+pub enum StepKind {
     /// It loads a word.
     Look,
     /// It exchanges an unmarked health word for an unmarked one.
@@ -25,7 +25,7 @@ pub enum Kind {
     Enrol,
 }
 
-impl Kind {
+impl StepKind {
     ghost use Rattle.std.specs.Prelude.{◌≡◌};
     ghost use Rattle.tko_steps.specs.Core.{is_call_step};
 
@@ -33,7 +33,7 @@ impl Kind {
     pub fn is_call_step(self) -> bool
         ensures { result ≡ is_call_step self }
     {
-        !matches!(self, Kind::Enrol)
+        !matches!(self, StepKind::Enrol)
     }
 }
 
@@ -65,7 +65,7 @@ pub enum Stepped {
     /// The thread is enrolled and has no call, so nothing changed.
     Idle,
     Did {
-        kind: Kind,
+        kind: StepKind,
         place: Place,
         /// The word that the step found.
         found: Word,

@@ -2,7 +2,7 @@
 ghost use Rattle.std.specs.Prelude.{◌≡◌, ◌<◌};
 ghost use Rattle.tko_steps.specs.Table.{action_of, after_change, after_look, after_slots, at_threshold, from_start, goes, lost_try, next_of, puts, same_server};
 
-use crate::{Call, Kind, Phase, Place, Slots, ThreadState};
+use crate::{Call, Phase, Place, Slots, StepKind, ThreadState};
 use tko_model::{Mark, Reply, ServerState, Settings, Transition};
 
 /// One step on one word.
@@ -40,28 +40,28 @@ pub enum Decision {
 }
 
 impl Action {
-    ghost use Rattle.tko_steps.specs.Steps.{kind_of, kind_of_exchange, place_of};
+    ghost use Rattle.tko_steps.specs.Steps.{kind_of_exchange, place_of, step_kind};
 
     /// What the step does, by name.
-    pub fn kind(&self) -> Kind
-        ensures { result ≡ kind_of self.now }
+    pub fn kind(&self) -> StepKind
+        ensures { result ≡ step_kind self.now }
     {
         match *self {
-            Action::LookAtServer | Action::LookAtSlots => Kind::Look,
+            Action::LookAtServer | Action::LookAtSlots => StepKind::Look,
             Action::Exchange { found, mark } => Action::kind_of_exchange(found.mark, mark),
-            Action::Reserve { .. } => Kind::Reserve,
-            Action::Settle | Action::Loosen => Kind::Shift,
-            Action::Give => Kind::Give,
+            Action::Reserve { .. } => StepKind::Reserve,
+            Action::Settle | Action::Loosen => StepKind::Shift,
+            Action::Give => StepKind::Give,
         }
     }
 
-    fn kind_of_exchange(old: Mark, new: Mark) -> Kind
+    fn kind_of_exchange(old: Mark, new: Mark) -> StepKind
         ensures { result ≡ kind_of_exchange old new }
     {
         match (old, new) {
-            (Mark::Up(_), Mark::Up(_)) => Kind::Count,
-            (Mark::Up(_), Mark::Soft(_) | Mark::Hard(_)) => Kind::Mark,
-            (Mark::Soft(_) | Mark::Hard(_), _) => Kind::Own,
+            (Mark::Up(_), Mark::Up(_)) => StepKind::Count,
+            (Mark::Up(_), Mark::Soft(_) | Mark::Hard(_)) => StepKind::Mark,
+            (Mark::Soft(_) | Mark::Hard(_), _) => StepKind::Own,
         }
     }
 
@@ -96,11 +96,11 @@ impl Observed {
 }
 
 impl Decision {
-    ghost use Rattle.tko_steps.specs.Steps.{answer_of, state_after};
+    ghost use Rattle.tko_steps.specs.Steps.{decided_answer, decided_state};
 
     /// The state of the thread of this call then.
     pub fn state(&self, call: &Call) -> ThreadState
-        ensures { result ≡ state_after call.now self.now }
+        ensures { result ≡ decided_state call.now self.now }
     {
         match *self {
             Decision::Goes { lost, phase } => ThreadState::InCall {
@@ -115,7 +115,7 @@ impl Decision {
 
     /// The reply, where the call ends.
     pub fn answer(&self) -> Option<Reply>
-        ensures { result ≡ answer_of self.now }
+        ensures { result ≡ decided_answer self.now }
     {
         match *self {
             Decision::Goes { .. } => None,

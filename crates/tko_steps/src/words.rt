@@ -15,13 +15,13 @@ use tko_word::{pack, pack_soft, unpack, unpack_soft};
 /// The health word of each server, the soft word of each group and the enrolment word. Contracts
 /// see what the words hold.
 #[derive(Drop)]
-pub struct Words {
+pub struct CoreWords {
     health: Vec<u64>,
     soft: Vec<u64>,
     enrolled: u64,
 }
 
-impl Model for Words {
+impl Model for CoreWords {
     ghost use Rattle.std.specs.Prelude.{All, map};
     ghost use Rattle.tko_word.specs.Words.{IsWord, server_in};
     ghost use Rattle.tko_steps.specs.Core.{Shared, slots_in};
@@ -37,19 +37,19 @@ impl Model for Words {
     ghost invariant = { λ w. All IsWord w.health.items };
 }
 
-impl Words {
+impl CoreWords {
     ghost use Rattle.tko_steps.specs.Core.{CanAct, CanShiftIn, IsPlace, opened_words, seen_by, servers_after, shared_after, slots_at, with_slots, with_soft_words, word_at};
     ghost use Rattle.tko_steps.specs.declared.table.Action.TheVariants.{Exchange, Give, Loosen, Reserve, Settle};
 
     /// Each server is up, at the opening stamp; no slot is taken and no thread enrolled.
-    pub fn open(alloc: Global, settings: &Settings) -> Result<Words, AllocError>
+    pub fn open(alloc: Global, settings: &Settings) -> Result<CoreWords, AllocError>
         requires { IsWithinRanges settings.now }
         ensures { IfOk result (λ words. words ≡ opened_words settings.now) }
     {
         let server = pack(Mark::Up(0), settings.opening_stamp);
         let health = vec![in alloc; server; settings.servers as usize]?;
         let soft = vec![in alloc; pack_soft(0, 0); settings.groups()]?;
-        Ok(Words {
+        Ok(CoreWords {
             health,
             soft,
             enrolled: 0,

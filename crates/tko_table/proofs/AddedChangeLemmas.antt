@@ -15,7 +15,7 @@ use Rattle.tko_steps.specs.declared.table.Decision.{Decision}
 use Rattle.tko_steps.specs.declared.table.Decision.TheVariants.{Goes, Answers}
 use Rattle.tko_steps.specs.Core.{Shared, seen_by, slots_at}
 use Rattle.tko_steps.specs.Invariant.{IsPhase}
-use Rattle.tko_steps.specs.Steps.{is_done, state_after}
+use Rattle.tko_steps.specs.Steps.{decided_state, is_done}
 use Rattle.tko_steps.specs.Table.{action_of, from_start, goes, lost_try, next_of, same_server, same_slots}
 use Rattle.tko_steps.proofs.StartLemmas.{from_start-is}
 use Rattle.tko_steps.proofs.TableLemmas.{eq-same_server}
@@ -114,7 +114,7 @@ module _ (s : Settings) (call : Call) (mine : List Made) (at : ℕ) where
 
   -- the changes of the thread once this followed its step
   abbrev pub told_with : Decision → List Change
-  told_with decision = changes_in call.number (mine_after mine call decision at) ++ pending (state_after call decision)
+  told_with decision = changes_in call.number (mine_after mine call decision at) ++ pending (decided_state call decision)
 
   -- they are those before, with what the step changed
   abbrev pub Adds : List Change → Decision → List Change → Type 0

@@ -13,7 +13,7 @@ use Rattle.tko_steps.specs.declared.phase.ThreadState.TheVariants.{InCall}
 use Rattle.tko_steps.specs.declared.table.Observed.{Observed}
 use Rattle.tko_steps.specs.Steps.{in_call}
 use Rattle.tko_steps.specs.Table.{action_of}
-use Rattle.tko_table.specs.declared.pass.Pass.{Pass}
+use Rattle.tko_table.specs.declared.pass.PassView.{PassView}
 use Rattle.tko_table.specs.Rule.{IsKept, shared_in}
 use Rattle.tko_table.specs.Steps.{Takes, read_in}
 use Rattle.tko_table.proofs.KeptLemmas.{act-kept, act-takes, pass_after}
@@ -21,10 +21,10 @@ use Rattle.tko_table.proofs.StepLemmas.{IsStepOn}
 use Rattle.tko_table.proofs.BeginLemmas.{begin-kept, with_state}
 
 abbrev pub Table : Type 0
-Table = State (Unit {0}) (List Pass)
+Table = State (Unit {0}) (List PassView)
 
 abbrev pub Seat : Type 0
-Seat = Me (Unit {0}) (List Pass)
+Seat = Me (Unit {0}) (List PassView)
 
 -- the rule of a table under these settings
 abbrev pub Rule : Settings → Table → Type 0
@@ -41,13 +41,13 @@ there-lt (y ∷ xs) zero x e = omega arith
 there-lt (y ∷ xs) (suc i) x e = omega (arith, there-lt xs i x e)
 
 -- what a seat's one pass became, with the rule of the table then
-pub record IsTaken (s : Settings) (words new_words : List ℕ) (views : List (List Pass)) (id : ℕ) (pass : Pass) (call : Call) (phase : Phase)
+pub record IsTaken (s : Settings) (words new_words : List ℕ) (views : List (List PassView)) (id : ℕ) (pass : PassView) (call : Call) (phase : Phase)
     (found : ℕ) : Type 0 where
-  pub new : Pass
+  pub new : PassView
   pub kept : IsKept s new_words (set views id (new ∷ []))
   pub takes : Takes pass call phase (read_in (action_of call.number phase) found) new
 
-pub taken-call : (s : Settings) (words new_words : List ℕ) (views : List (List Pass)) (id : ℕ) (pass : Pass) (call : Call) (phase : Phase) (found : ℕ)
+pub taken-call : (s : Settings) (words new_words : List ℕ) (views : List (List PassView)) (id : ℕ) (pass : PassView) (call : Call) (phase : Phase) (found : ℕ)
     → IsKept s words views → get_elem? views id ≡ some (pass ∷ []) → pass.state ≡ InCall call phase → IsStepOn s words new_words call.server (action_of call.number phase) found
     → IsTaken s words new_words views id pass call phase found
 taken-call s words new_words views id pass call phase found kept there stands on =
@@ -58,7 +58,7 @@ taken-call s words new_words views id pass call phase found kept there stands on
       takes = subst P on.reads (act-takes s words new_words views id [] [] pass call phase kept there stands on.left on.valid);
     }
 
-pub taken-look : (s : Settings) (words new_words : List ℕ) (views : List (List Pass)) (id : ℕ) (pass : Pass) (call : Call) (phase : Phase) (found : ℕ)
+pub taken-look : (s : Settings) (words new_words : List ℕ) (views : List (List PassView)) (id : ℕ) (pass : PassView) (call : Call) (phase : Phase) (found : ℕ)
     → IsKept s words views → get_elem? views id ≡ some (pass ∷ []) → (op : Op) → in_call pass.state op call.server ≡ InCall call phase
     → call.server < length (shared_in s words).servers
     → IsStepOn s words new_words call.server (action_of call.number phase) found

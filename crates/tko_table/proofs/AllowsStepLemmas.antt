@@ -19,7 +19,7 @@ use Rattle.tko_steps.specs.declared.table.Action.TheVariants as action
 use Rattle.tko_steps.specs.Core.{CanAct, slots_in}
 use Rattle.tko_steps.specs.Steps.{in_call, is_marked_state}
 use Rattle.tko_steps.specs.Table.{action_of}
-use Rattle.tko_table.specs.declared.pass.Pass.{Pass}
+use Rattle.tko_table.specs.declared.pass.PassView.{PassView}
 use Rattle.tko_table.specs.Rule.{IsKept, health_in, health_place, shared_in, soft_place}
 use Rattle.tko_table.specs.Steps.{Exchanged, IsSoundWord, IsWithinLimit, Looked, LookedAtSlots, Plays, Took, read_in}
 use Rattle.tko_table.proofs.StepLemmas.{IsStepOn, all-sound, can-act, own-stands, looks-at-server, looks-at-slots, slots-within, slots-inside}
@@ -29,10 +29,10 @@ use Rattle.tko_table.proofs.AllowsLemmas.{Rule, Seat, Table, taken-call, taken-l
 
 -- ---- from one call and phase to whichever the seat has
 
-head_is : (view : List Pass) (one other : Pass) → view ≡ one ∷ [] → view ≡ other ∷ [] → one ≡ other
+head_is : (view : List PassView) (one other : PassView) → view ≡ one ∷ [] → view ≡ other ∷ [] → one ≡ other
 head_is view one other first second = let same : one ∷ [] ≡ other ∷ [] = sym first ∙ second in cc
 
-took-any : (view new : List Pass) (found : ℕ) (pass : Pass) (call : Call) (phase : Phase) → view ≡ pass ∷ []
+took-any : (view new : List PassView) (found : ℕ) (pass : PassView) (call : Call) (phase : Phase) → view ≡ pass ∷ []
     → (state : ThreadState) → state ≡ InCall call phase
     → Took view call phase (read_in (action_of call.number phase) found) new
     → (other : Call) (at : Phase) → state ≡ InCall other at
@@ -45,7 +45,7 @@ took-any view new found pass call phase alone state stands took other at also =
     (subst (λ it. Took view it phase (read_in (action_of it.number phase) found) new) calls took)
 
 -- a step of the call under way
-pub allows-call : (s : Settings) (slots id : ℕ) (me : Seat) (word : ℕ) (f : ℕ → ℕ) (pass : Pass) (call : Call) (phase : Phase)
+pub allows-call : (s : Settings) (slots id : ℕ) (me : Seat) (word : ℕ) (f : ℕ → ℕ) (pass : PassView) (call : Call) (phase : Phase)
     → me.0 ≡ pass ∷ [] → pass.state ≡ InCall call phase
     → ((state : Table) → IsKept s state.words state.views → get_elem? state.views id ≡ some (pass ∷ []) → get_or state.words word 0 < 2 ^ 64
     → IsStepOn s state.words (set state.words word (f (get_or state.words word 0))) call.server (action_of call.number phase)
@@ -64,13 +64,13 @@ allows-call s slots id me word f pass call phase alone stands steps state kept h
             let same : pass ≡ other = head_is me.0 pass other alone other_alone in
             took-any me.0 (taken.new ∷ []) found pass call phase alone pass.state stands
             (record { old = pass; new = taken.new; was = alone; is = refl; takes = taken.takes })
-            own_call own_phase (ap (λ (it : Pass). it.state) same ∙ other_stands)),
+            own_call own_phase (ap (λ (it : PassView). it.state) same ∙ other_stands)),
         refl,
       ),
     )
 
 -- a load of a server's word; the call is under way, or begins with it
-pub allows-look : (s : Settings) (slots id : ℕ) (me : Seat) (op : Op) (pass : Pass) (call : Call) (phase : Phase)
+pub allows-look : (s : Settings) (slots id : ℕ) (me : Seat) (op : Op) (pass : PassView) (call : Call) (phase : Phase)
     → me.0 ≡ pass ∷ [] → in_call pass.state op call.server ≡ InCall call phase → action_of call.number phase ≡ action.LookAtServer
     → pass.settings ≡ s → call.server < s.servers
     → Allows (Rule s) slots id me (health_place call.server) (λ n. n)
@@ -94,13 +94,13 @@ allows-look s slots id me op pass call phase alone begins is_look same_settings 
               let same : pass ≡ other = head_is me.0 pass other alone other_alone in
               let servers : own_call.server ≡ call.server = omega arith in
               let state_is : in_call pass.state op call.server ≡ InCall own_call own_phase =
-              ap (λ (it : Pass). in_call it.state op call.server) same ∙ ap (in_call other.state op) (sym servers) ∙ other_begins in
+              ap (λ (it : PassView). in_call it.state op call.server) same ∙ ap (in_call other.state op) (sym servers) ∙ other_begins in
               took-any me.0 new found pass call phase alone (in_call pass.state op call.server) begins
               (record { old = pass; new = taken.new; was = alone; is = refl; takes = taken.takes })
               own_call own_phase state_is;
           sound = λ other other_alone.
               let same : pass ≡ other = head_is me.0 pass other alone other_alone in
-              let settings : s ≡ other.settings = sym same_settings ∙ ap (λ (it : Pass). it.settings) same in
+              let settings : s ≡ other.settings = sym same_settings ∙ ap (λ (it : PassView). it.settings) same in
               subst (λ it. IsSoundWord it found) settings (all-sound s state.words state.views kept call.server inside);
         },
         refl,
@@ -118,7 +118,7 @@ allows-with holds slots id me word f told tells Fact allows fact both state kept
     (given.0, given.1, given.2, given.3, both (get_or state.words word 0) _ (fact state kept at) given.4)
 
 -- a load of the soft word
-pub allows-look_at_slots : (s : Settings) (slots id : ℕ) (me : Seat) (pass : Pass) (call : Call) (phase : Phase)
+pub allows-look_at_slots : (s : Settings) (slots id : ℕ) (me : Seat) (pass : PassView) (call : Call) (phase : Phase)
     → me.0 ≡ pass ∷ [] → pass.state ≡ InCall call phase → action_of call.number phase ≡ action.LookAtSlots → pass.settings ≡ s
     → Allows (Rule s) slots id me (soft_place s (group_of s call.server)) (λ n. n) (λ found new. LookedAtSlots me found new × (new.1 ≡ me.1))
 allows-look_at_slots s slots id me pass call phase alone stands is_look same_settings =
@@ -135,8 +135,8 @@ allows-look_at_slots s slots id me pass call phase alone stands is_look same_set
         plays = plays.0;
         within = λ other own_call own_phase other_alone other_stands.
             let same : pass ≡ other = head_is me.0 pass other alone other_alone in
-            let settings : s ≡ other.settings = sym same_settings ∙ ap (λ (it : Pass). it.settings) same in
-            let both : InCall call phase ≡ InCall own_call own_phase = sym stands ∙ ap (λ (it : Pass). it.state) same ∙ other_stands in
+            let settings : s ≡ other.settings = sym same_settings ∙ ap (λ (it : PassView). it.settings) same in
+            let both : InCall call phase ≡ InCall own_call own_phase = sym stands ∙ ap (λ (it : PassView). it.state) same ∙ other_stands in
             let calls : call ≡ own_call = cc in
             subst (λ (it : Call). IsWithinLimit other.settings it.server (slots_in found)) calls
             (subst (λ it. IsWithinLimit it call.server (slots_in found)) settings within);
@@ -145,12 +145,12 @@ allows-look_at_slots s slots id me pass call phase alone stands is_look same_set
     ))
 
 -- where the server of a call under way is
-server-inside : (s : Settings) (words : List ℕ) (server : ℕ) → (views : List (List Pass)) → IsKept s words views → server < s.servers
+server-inside : (s : Settings) (words : List ℕ) (server : ℕ) → (views : List (List PassView)) → IsKept s words views → server < s.servers
     → server < length (shared_in s words).servers
 server-inside s words server views kept on_server = omega (arith, on_server, kept.core.core.count)
 
 -- an exchange of a server's word
-pub allows-exchange : (s : Settings) (slots id : ℕ) (me : Seat) (pass : Pass) (call : Call) (phase : Phase) (found : ServerState) (mark : Mark)
+pub allows-exchange : (s : Settings) (slots id : ℕ) (me : Seat) (pass : PassView) (call : Call) (phase : Phase) (found : ServerState) (mark : Mark)
     (expected new : ℕ) → me.0 ≡ pass ∷ [] → pass.state ≡ InCall call phase → action_of call.number phase ≡ action.Exchange found mark
     → call.server < s.servers → IsWord expected → server_in expected ≡ found → IsWord new
     → server_in new ≡ record { mark = mark; stamp = found.stamp + 1 }
@@ -159,7 +159,7 @@ pub allows-exchange : (s : Settings) (slots id : ℕ) (me : Seat) (pass : Pass) 
 allows-exchange s slots id me pass call phase found mark expected new alone stands is_exchange on_server is_expected expects is_new leaves =
     let word = health_place call.server in
     let f = λ (n : ℕ). either (eqb n expected) new n in
-    let Fact : ℕ → Type 0 = λ n. IsWord n × ((other : Pass) (own_call : Call) (own_phase : Phase) (own_found : ServerState) (own_mark : Mark)
+    let Fact : ℕ → Type 0 = λ n. IsWord n × ((other : PassView) (own_call : Call) (own_phase : Phase) (own_found : ServerState) (own_mark : Mark)
     → me.0 ≡ other ∷ [] → word ≡ health_place own_call.server → other.state ≡ InCall own_call own_phase
     → action_of own_call.number own_phase ≡ action.Exchange own_found own_mark → is_marked_state own_found.mark ≡ true → server_in n ≡ own_found) in
     allows-with (Rule s) slots id me word f (λ n after. Plays me n after × (after.1 ≡ me.1)) (λ n after. Exchanged word me n after × (after.1 ≡ me.1)) Fact
@@ -179,7 +179,7 @@ allows-exchange s slots id me pass call phase found mark expected new alone stan
     (λ n after fact plays. (record { plays = plays.0; valid = fact.0; stands = fact.1 }, plays.1))
 
 -- a change of the soft word
-module _ (s : Settings) (slots id : ℕ) (me : Seat) (pass : Pass) (call : Call) (phase : Phase) (alone : me.0 ≡ pass ∷ [])
+module _ (s : Settings) (slots id : ℕ) (me : Seat) (pass : PassView) (call : Call) (phase : Phase) (alone : me.0 ≡ pass ∷ [])
     (stands : pass.state ≡ InCall call phase) where
   on_soft : (act : Action) (f : ℕ → ℕ) → action_of call.number phase ≡ act
       → ((words : List ℕ) → All IsWord (health_in s words) → get_or words (soft_place s (group_of s call.server)) 0 < 2 ^ 64

@@ -14,17 +14,17 @@ use Rattle.tko_model.specs.Tracker.{is_soft, server_at, softs_from, softs_in}
 use Rattle.tko_word.specs.Words.{IsWord, server_in}
 use Rattle.tko_steps.specs.declared.phase.ThreadState.{ThreadState}
 use Rattle.tko_steps.specs.declared.phase.ThreadState.TheVariants.{NotEnrolled, Idle, InCall}
-use Rattle.tko_steps.specs.Core.{Shared, has_number, number_of, owner_of, no_slots, slots_at, slots_in}
+use Rattle.tko_steps.specs.Core.{Shared, has_number, drawn_number, owner_of, no_slots, slots_at, slots_in}
 use Rattle.tko_steps.specs.Invariant.{holds_in}
 use Rattle.tko_steps.specs.Steps.{is_marked_state}
 use Rattle.tko_steps.proofs.RoomLemmas.{enrolled-le}
 use Rattle.tko_steps.proofs.CountLemmas.{bit}
 use Rattle.tko_table.specs.declared.pass.Change.{Change}
-use Rattle.tko_table.specs.declared.pass.Pass.{Pass}
-use Rattle.tko_table.specs.Closing.{IsDone, IsLeft, Left}
+use Rattle.tko_table.specs.declared.pass.PassView.{PassView}
+use Rattle.tko_table.specs.Closing.{ClosedContents, IsDone, IsLeftByThreads}
 use Rattle.tko_table.specs.History.{Begins}
-use Rattle.tko_table.specs.Passes.{OwnsItsMarks, HasItsChanges, is_marked_by}
-use Rattle.tko_table.specs.Rule.{IsKept, core_in, health_in, health_place, joined, shared_in, states_of, soft_in, soft_place}
+use Rattle.tko_table.specs.Passes.{PassOwnsItsMarks, HasItsChanges, is_marked_by}
+use Rattle.tko_table.specs.Rule.{IsKept, core_in, health_in, health_place, joined_passes, shared_in, states_of, soft_in, soft_place}
 use Rattle.tko_table.proofs.JoinLemmas.{taken-out}
 use Rattle.tko_table.proofs.SharedLemmas.{health-get, server-there, slots-there}
 use Rattle.tko_table.proofs.SplitLemmas.{kept-permuted}
@@ -40,13 +40,13 @@ none-counted p (x ∷ xs) all =
     let rest = none-counted p xs (All-tail (λ x. p x ≡ false) x xs all) in
     omega (arith, sum_by-cons (λ it. bit (p it)) x xs, first, rest)
 
-number-is : (state : ThreadState) (number : ℕ) → has_number number state ≡ true → number_of state ≡ Some number
+number-is : (state : ThreadState) (number : ℕ) → has_number number state ≡ true → drawn_number state ≡ Some number
 number-is NotEnrolled number e = cc
 number-is (Idle own) number e = ap Some (eqb-true own number e)
 number-is (InCall call phase) number e = ap Some (eqb-true call.number number e)
 
 -- no pass holds a slot, or has a soft mark that is not settled
-none-hold : (s : Settings) (group : ℕ) (passes : List Pass) → All IsDone passes → count_by (holds_in s group) (states_of passes) ≡ 0
+none-hold : (s : Settings) (group : ℕ) (passes : List PassView) → All IsDone passes → count_by (holds_in s group) (states_of passes) ≡ 0
 none-hold s group [] all = refl
 none-hold s group (pass ∷ passes) all =
     let done = All-head IsDone pass passes all in
@@ -59,19 +59,19 @@ none-hold s group (pass ∷ passes) all =
     )
 
 -- no pass has a number that a mark names
-none-named : (servers : List ServerState) (server number : ℕ) (passes : List Pass)
-    → is_marked_by (Some number) (server_at servers server).mark ≡ true → All (OwnsItsMarks servers) passes → All IsDone passes
+none-named : (servers : List ServerState) (server number : ℕ) (passes : List PassView)
+    → is_marked_by (Some number) (server_at servers server).mark ≡ true → All (PassOwnsItsMarks servers) passes → All IsDone passes
     → count_by (has_number number) (states_of passes) ≡ 0
 none-named servers server number [] marked owned all = refl
 none-named servers server number (pass ∷ passes) marked owned all =
     let done = All-head IsDone pass passes all in
-    let own = All-head (OwnsItsMarks servers) pass passes owned in
-    let rest = none-named servers server number passes marked (All-tail (OwnsItsMarks servers) pass passes owned) (All-tail IsDone pass passes all) in
+    let own = All-head (PassOwnsItsMarks servers) pass passes owned in
+    let rest = none-named servers server number passes marked (All-tail (PassOwnsItsMarks servers) pass passes owned) (All-tail IsDone pass passes all) in
     let total = sum_by-cons (λ it. bit (has_number number it)) pass.state (states_of passes) in
     elim (cases_Bool (has_number number pass.state)) [
       | inl has ↦
           let drew = number-is pass.state number has in
-          let is : is_marked_by (number_of pass.state) (server_at servers server).mark ≡ true =
+          let is : is_marked_by (drawn_number pass.state) (server_at servers server).mark ≡ true =
           ap (λ drawn. is_marked_by drawn (server_at servers server).mark) drew ∙ marked in
           let e : true ≡ false = sym is ∙ sym (own server) ∙ done.none server in cc
       | inr hasnt ↦ omega (arith, total, rest, ap bit hasnt)
@@ -107,28 +107,28 @@ no-slots slots firm held = λ i. record { firm = firm i; held = held i }
 
 -- ---- the passes of one seat are all that there are
 
-module _ (s : Settings) (words : List ℕ) (views : List (List Pass)) (id : ℕ) (view : List Pass) (kept : IsKept s words views)
+module _ (s : Settings) (words : List ℕ) (views : List (List PassView)) (id : ℕ) (view : List PassView) (kept : IsKept s words views)
     (there : get_elem? views id ≡ some view) (all : length view ≡ s.threads) where
-  abbrev rest : List Pass
-  rest = joined (set views id [])
+  abbrev rest : List PassView
+  rest = joined_passes (set views id [])
 
   kept-first : IsKept s words (view ∷ set views id [])
   kept-first = kept-permuted s words views (view ∷ set views id []) (taken-out views id view there) kept
 
-  none-left : (passes : List Pass) → length passes ≡ 0 → passes ≡ []
+  none-left : (passes : List PassView) → length passes ≡ 0 → passes ≡ []
   none-left [] e = refl
   none-left (pass ∷ passes) e = absurd (omega (arith, e))
 
   rest-none : rest ≡ []
   rest-none =
       let threads = kept-first.core.core.threads in
-      none-left rest (omega (arith, threads, all, length-map (view ++ rest) (λ (pass : Pass). pass.state), length-append view rest))
+      none-left rest (omega (arith, threads, all, length-map (view ++ rest) (λ (pass : PassView). pass.state), length-append view rest))
 
   whole : view ++ rest ≡ view
   whole = ap (λ it. view ++ it) rest-none ∙ append-nil view
 
   -- a fact of all passes is one of the seat's
-  on-view : (P : Pass → Type 0) → All P (view ++ rest) → All P view
+  on-view : (P : PassView → Type 0) → All P (view ++ rest) → All P view
   on-view P facts = subst (All P) whole facts
 
   module _ (done : All IsDone view) where
@@ -144,7 +144,7 @@ module _ (s : Settings) (words : List ℕ) (views : List (List Pass)) (id : ℕ)
         let drawn = is.owners server number names in
         let one : count_by (has_number number) (states_of view) ≡ 1 =
         ap (λ passes. count_by (has_number number) (states_of passes)) (sym whole) ∙ is.numbers number ∙ cond-true _ _ _ (lt-ltb number (shared_in s words).enrolled drawn) in
-        let none = none-named servers server number view (names-owner mark number names) (on-view (OwnsItsMarks servers) kept-first.core.owned) done in
+        let none = none-named servers server number view (names-owner mark number names) (on-view (PassOwnsItsMarks servers) kept-first.core.owned) done in
         omega (arith, one, none))
 
     unmarked-all : All (λ (server : ServerState). is_marked_state server.mark ≡ false) (shared_in s words).servers
@@ -161,14 +161,14 @@ module _ (s : Settings) (words : List ℕ) (views : List (List Pass)) (id : ℕ)
         let held = sym is.held ∙ ap (λ passes. count_by (holds_in s group) (states_of passes)) whole ∙ none-hold s group view done in
         no-slots (slots_at (shared_in s words).slots group) (omega (arith, is.firm, no_softs group)) held
 
-    pub all-left : IsLeft s view (shared_in s words)
+    pub all-left : IsLeftByThreads s view (shared_in s words)
     all-left =
         let told = kept-first.told in
         let is = kept-first.core.core in
         record {
           history = kept-first.history;
           replays = told.replays;
-          seen = on-view (λ (pass : Pass). Begins pass.seen kept-first.history) told.seen;
+          seen = on-view (λ (pass : PassView). Begins pass.seen kept-first.history) told.seen;
           mine = on-view (HasItsChanges kept-first.history) told.mine;
           drawn = All-weaker (λ (change : Change). change.number < (shared_in s words).enrolled) (λ (change : Change). change.number < s.threads)
               (λ change less. omega (arith, less, enrolled_le)) kept-first.history told.drawn;
@@ -178,11 +178,11 @@ module _ (s : Settings) (words : List ℕ) (views : List (List Pass)) (id : ℕ)
         }
 
 -- what a table that was closed with that seat holds
-pub closed-left : (key s : Settings) (words shut : List ℕ) (views : List (List Pass)) (id : ℕ) (view : List Pass) → key ≡ s → words ≡ shut
-    → IsKept key words views → get_elem? views id ≡ some view → length view ≡ s.threads → All IsDone view → IsLeft s view (shared_in s shut)
+pub closed-left : (key s : Settings) (words shut : List ℕ) (views : List (List PassView)) (id : ℕ) (view : List PassView) → key ≡ s → words ≡ shut
+    → IsKept key words views → get_elem? views id ≡ some view → length view ≡ s.threads → All IsDone view → IsLeftByThreads s view (shared_in s shut)
 closed-left key s words shut views id view same shuts kept there all done =
     let P : Settings → Type 0 = λ it. IsKept it words views in
-    subst (λ it. IsLeft s view (shared_in s it)) shuts (all-left s words views id view (subst P same kept) there all done)
+    subst (λ it. IsLeftByThreads s view (shared_in s it)) shuts (all-left s words views id view (subst P same kept) there all done)
 
 at-get : (words : List ℕ) (place number d : ℕ) → get_elem? words place ≡ some number → get_or words place d ≡ number
 at-get [] place number d e = absurd (some-ne-none number (sym e))
@@ -203,10 +203,10 @@ closed-server s words place server number is there inside =
     ap server_in (sym found) ∙ sym (server-there s words server (omega (arith, inside, length-map (health_in s words) server_in)))
 
 -- a server of the closed words has its word
-pub server-inside : (s : Settings) (shared : Shared) (value : Left) (server : ℕ) (words : List ℕ) → record { settings = s; shared = shared } ≡ value
+pub server-inside : (s : Settings) (shared : Shared) (value : ClosedContents) (server : ℕ) (words : List ℕ) → record { settings = s; shared = shared } ≡ value
     → length words ≡ s.servers + 1 + groups s → server < value.settings.servers → server < length (health_in s words)
 server-inside s shared value server words is count inside =
-    let less : server < s.servers = subst (λ (it : Left). server < it.settings.servers) (sym is) inside in
+    let less : server < s.servers = subst (λ (it : ClosedContents). server < it.settings.servers) (sym is) inside in
     let enough : s.servers ≤ length (drop 1 words) = omega (arith, count, length-drop 1 words) in
     omega (arith, less, length-take-le s.servers (drop 1 words) enough)
 

@@ -21,7 +21,7 @@ use Rattle.tko_steps.proofs.PhaseStepLemmas.{knows_at}
 use Rattle.tko_steps.proofs.TableLemmas.{same_server-true}
 use Rattle.tko_table.specs.declared.pass.Change.{Change}
 use Rattle.tko_table.specs.History.{change_by}
-use Rattle.tko_table.specs.Passes.{changes_by, owned_after, owned_with}
+use Rattle.tko_table.specs.Passes.{changes_by, owned_after_action, owned_with}
 use Rattle.tko_table.specs.Rule.{IsPlannedAt}
 use Rattle.tko_table.proofs.OwnedLemmas.{NamesOnly}
 use Rattle.tko_model.specs.Groups.{group_of, limit_at}
@@ -56,7 +56,7 @@ module _ (core : CoreState) (thread : ℕ) (call : Call) (is : IsCore core) (ins
       let action = action_of call.number phase in
       let read = seen_by core.settings core.shared call.server action in
       Effect core.settings call (abstract_of core) (shared_after core.settings core.shared call.server action).servers owned
-      (owned_after owned call.server action (is_done read)) (changes_by call phase (is_done read))
+      (owned_after_action owned call.server action (is_done read)) (changes_by call phase (is_done read))
 
   -- an exchange; what it needs if it is won
   exchanges : (found : ServerState) (mark : Mark) (answer : Reply) → call.server < length (abstract_of core)

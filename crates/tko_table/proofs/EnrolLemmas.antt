@@ -11,16 +11,16 @@ use Rattle.tko_steps.specs.declared.phase.ThreadState.TheVariants.{NotEnrolled, 
 use Rattle.tko_steps.specs.Core.{is_enrolled}
 use Rattle.tko_steps.proofs.CountLemmas.{bit}
 use Rattle.tko_table.specs.declared.pass.Change.{Change}
-use Rattle.tko_table.specs.declared.pass.Pass.{Pass}
+use Rattle.tko_table.specs.declared.pass.PassView.{PassView}
 use Rattle.tko_table.specs.Passes.{count_enrolled, enrol_first, enrolled_pass}
-use Rattle.tko_table.specs.Rule.{IsKept, joined, shared_in, states_of}
+use Rattle.tko_table.specs.Rule.{IsKept, joined_passes, shared_in, states_of}
 
 -- ---- the first pass that isn't enrolled
 
-pub record IsFirst (passes : List Pass) : Type 0 where
-  pub earlier : List Pass
-  pub pass : Pass
-  pub later : List Pass
+pub record IsFirst (passes : List PassView) : Type 0 where
+  pub earlier : List PassView
+  pub pass : PassView
+  pub later : List PassView
   pub was : passes ≡ earlier ++ pass ∷ later
   pub waits : pass.state ≡ NotEnrolled
   pub enrols : (number : ℕ) (history : List Change) → enrol_first passes number history ≡ earlier ++ enrolled_pass pass number history ∷ later
@@ -30,7 +30,7 @@ not_enrolled NotEnrolled e = refl
 not_enrolled (Idle number) e = cc
 not_enrolled (InCall call phase) e = cc
 
-pub first-open : (passes : List Pass) → count_enrolled passes < length passes → IsFirst passes
+pub first-open : (passes : List PassView) → count_enrolled passes < length passes → IsFirst passes
 first-open [] less = absurd (omega arith)
 first-open (pass ∷ passes) less =
     elim (cases_Bool (is_enrolled pass.state)) [
@@ -60,7 +60,7 @@ first-open (pass ∷ passes) less =
 
 -- ---- how many are enrolled
 
-enrolled-states : (passes : List Pass) → count_by is_enrolled (states_of passes) ≡ count_enrolled passes
+enrolled-states : (passes : List PassView) → count_by is_enrolled (states_of passes) ≡ count_enrolled passes
 enrolled-states [] = refl
 enrolled-states (pass ∷ passes) =
     let step = sum_by-cons (λ it. bit (is_enrolled it)) pass.state (states_of passes) in
@@ -74,7 +74,7 @@ enrolled-states (pass ∷ passes) =
           omega (arith, step, rest, count, ap bit waits)
     ]
 
-enrolled-append : (one other : List Pass) → count_enrolled (one ++ other) ≡ count_enrolled one + count_enrolled other
+enrolled-append : (one other : List PassView) → count_enrolled (one ++ other) ≡ count_enrolled one + count_enrolled other
 enrolled-append [] other = omega arith
 enrolled-append (pass ∷ one) other =
     let rest = enrolled-append one other in
@@ -90,33 +90,33 @@ enrolled-append (pass ∷ one) other =
     ]
 
 -- the passes of the other seats
-others : (views : List (List Pass)) (id : ℕ) (view : List Pass) → get_elem? views id ≡ some view
-    → (rest : List Pass) × (length (joined views) ≡ length view + length rest)
-    × (count_enrolled (joined views) ≡ count_enrolled view + count_enrolled rest)
+others : (views : List (List PassView)) (id : ℕ) (view : List PassView) → get_elem? views id ≡ some view
+    → (rest : List PassView) × (length (joined_passes views) ≡ length view + length rest)
+    × (count_enrolled (joined_passes views) ≡ count_enrolled view + count_enrolled rest)
 others [] id view e = absurd (some-ne-none view (sym e))
 others (first ∷ views) zero view e =
     let same : first ≡ view = some-injective first view e in (
-      joined views,
-      length-append first (joined views) ∙ ap (λ it. length it + length (joined views)) same,
-      enrolled-append first (joined views) ∙ ap (λ it. count_enrolled it + count_enrolled (joined views)) same,
+      joined_passes views,
+      length-append first (joined_passes views) ∙ ap (λ it. length it + length (joined_passes views)) same,
+      enrolled-append first (joined_passes views) ∙ ap (λ it. count_enrolled it + count_enrolled (joined_passes views)) same,
     )
 others (first ∷ views) (suc id) view e =
     let found = others views id view e in (
       first ++ found.0,
-      omega (arith, length-append first (joined views), length-append first found.0, found.1),
-      omega (arith, enrolled-append first (joined views), enrolled-append first found.0, found.2),
+      omega (arith, length-append first (joined_passes views), length-append first found.0, found.1),
+      omega (arith, enrolled-append first (joined_passes views), enrolled-append first found.0, found.2),
     )
 
-none-enrolled : (passes : List Pass) → length passes ≡ 0 → count_enrolled passes ≡ 0
+none-enrolled : (passes : List PassView) → length passes ≡ 0 → count_enrolled passes ≡ 0
 none-enrolled [] e = refl
 none-enrolled (pass ∷ passes) e = absurd (omega arith)
 
 -- a seat that has all passes knows how many are enrolled
-pub drawn-alone : (s : Settings) (words : List ℕ) (views : List (List Pass)) (id : ℕ) (view : List Pass) → IsKept s words views
+pub drawn-alone : (s : Settings) (words : List ℕ) (views : List (List PassView)) (id : ℕ) (view : List PassView) → IsKept s words views
     → get_elem? views id ≡ some view → length view ≡ s.threads → (shared_in s words).enrolled ≡ count_enrolled view
 drawn-alone s words views id view kept there all =
     let rest = others views id view there in
     let core = kept.core.core in
-    let long = length-map (joined views) (λ (at : Pass). at.state) in
+    let long = length-map (joined_passes views) (λ (at : PassView). at.state) in
     let nobody = none-enrolled rest.0 (omega (arith, all, core.threads, long, rest.1)) in
-    omega (arith, core.enrolled, enrolled-states (joined views), rest.2, nobody)
+    omega (arith, core.enrolled, enrolled-states (joined_passes views), rest.2, nobody)

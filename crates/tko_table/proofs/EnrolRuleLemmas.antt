@@ -14,20 +14,20 @@ use Rattle.tko_model.specs.Settings.{Settings}
 use Rattle.tko_model.specs.Tracker.{server_at}
 use Rattle.tko_word.specs.Words.{IsWord}
 use Rattle.tko_steps.specs.declared.phase.ThreadState.TheVariants.{NotEnrolled, Idle}
-use Rattle.tko_steps.specs.declared.step.Kind.TheVariants.{Enrol}
+use Rattle.tko_steps.specs.declared.step.StepKind.TheVariants.{Enrol}
 use Rattle.tko_steps.specs.declared.step.Place.TheVariants as place
 use Rattle.tko_steps.specs.declared.step.Word.TheVariants as held
-use Rattle.tko_steps.specs.Core.{CoreState, Shared, abstract_of, after_enrol, after_step, after_step_from, number_of, owner_of, reported_by_enrol, reported_by_step, reported_from, thread_at}
+use Rattle.tko_steps.specs.Core.{CoreState, Shared, abstract_of, after_enrol, after_step, after_step_from, drawn_number, owner_of, reported_by_enrol, reported_by_step, reported_from, thread_at}
 use Rattle.tko_steps.specs.Runs.{Step, StepTaken, Took as TookStep, happens, with_reported}
 use Rattle.tko_steps.specs.Invariant.{IsCore}
 use Rattle.tko_steps.proofs.BeginLemmas.{IsCore-after_enrol}
 use Rattle.tko_steps.proofs.RoomLemmas.{enrolled-le}
 use Rattle.tko_steps.proofs.ThreadLemmas.{enrolled-lt}
 use Rattle.tko_table.specs.declared.pass.Change.{Change}
-use Rattle.tko_table.specs.declared.pass.Pass.{Pass}
+use Rattle.tko_table.specs.declared.pass.PassView.{PassView}
 use Rattle.tko_table.specs.History.{Begins, Replays, changes_in}
-use Rattle.tko_table.specs.Passes.{StandsIn, OwnsItsMarks, HasItsChanges, count_enrolled, enrolled_pass, is_marked_by}
-use Rattle.tko_table.specs.Rule.{IsKept, IsPlanned, core_in, enrolment_place, joined, shared_in, states_of}
+use Rattle.tko_table.specs.Passes.{StandsIn, PassOwnsItsMarks, HasItsChanges, count_enrolled, enrolled_pass, is_marked_by}
+use Rattle.tko_table.specs.Rule.{IsKept, IsPlanned, core_in, enrolment_place, joined_passes, shared_in, states_of}
 use Rattle.tko_table.specs.Steps.{Enrolled, EnrolsIn}
 use Rattle.tko_table.proofs.AllowsLemmas.{Rule, Seat}
 use Rattle.tko_table.proofs.AddedChangeLemmas.{none-made}
@@ -68,32 +68,32 @@ enrolment-turn core thread inside waits =
     let reported : reported_by_step core thread ≡ reported_by_enrol core = cond-true _ _ _ less ∙ ap (reported_from core) waits in
     λ i. with_reported [] thread (abstract_of core) (abstract_of (new i)) (reported i)
 
-module _ (s : Settings) (words : List ℕ) (views : List (List Pass)) (id : ℕ) (before rest : List Pass) (pass : Pass)
+module _ (s : Settings) (words : List ℕ) (views : List (List PassView)) (id : ℕ) (before rest : List PassView) (pass : PassView)
     (kept : IsKept s words views) (there : get_elem? views id ≡ some (before ++ pass ∷ rest)) (waits : pass.state ≡ NotEnrolled) where
-  one : IsOneOf (joined views) pass (λ new. joined (set views id (before ++ new ∷ rest)))
+  one : IsOneOf (joined_passes views) pass (λ new. joined_passes (set views id (before ++ new ∷ rest)))
   one = one-joined views id before rest pass there
 
   pub few : (shared_in s words).enrolled ≤ max_threads layout.Two
-  few = omega (arith, enrolled-le (core_in s words (joined views)) kept.core.core, kept.core.core.settings.threads.1)
+  few = omega (arith, enrolled-le (core_in s words (joined_passes views)) kept.core.core, kept.core.core.settings.threads.1)
 
   -- there is a number left for this pass
   pub fewer : (shared_in s words).enrolled < max_threads layout.Two
   fewer =
-      let passes = joined views in
+      let passes = joined_passes views in
       let core = kept.core.core in
-      let inside : one.place < length (states_of passes) = omega (arith, one.inside, length-map passes (λ (at : Pass). at.state)) in
+      let inside : one.place < length (states_of passes) = omega (arith, one.inside, length-map passes (λ (at : PassView). at.state)) in
       let stands_in : thread_at (core_in s words passes) one.place ≡ NotEnrolled =
-      get_or-map (λ (at : Pass). at.state) passes one.place pass NotEnrolled one.inside ∙ ap (λ (at : Pass). at.state) (one.at pass) ∙ waits in
+      get_or-map (λ (at : PassView). at.state) passes one.place pass NotEnrolled one.inside ∙ ap (λ (at : PassView). at.state) (one.at pass) ∙ waits in
       omega (arith, enrolled-lt (states_of passes) one.place inside stands_in, core.enrolled, core.threads, core.settings.threads.1)
 
   -- the step is the core's enrolment of its thread
-  pub core-enrols : EnrolsIn (core_in s words (joined views)) (shared_in s words).enrolled
+  pub core-enrols : EnrolsIn (core_in s words (joined_passes views)) (shared_in s words).enrolled
   core-enrols =
-      let passes = joined views in
+      let passes = joined_passes views in
       let core : CoreState = core_in s words passes in
       let stands_in : thread_at core one.place ≡ NotEnrolled =
-      get_or-map (λ (at : Pass). at.state) passes one.place pass NotEnrolled one.inside ∙ ap (λ (at : Pass). at.state) (one.at pass) ∙ waits in
-      let inside : one.place < length (states_of passes) = omega (arith, one.inside, length-map passes (λ (at : Pass). at.state)) in
+      get_or-map (λ (at : PassView). at.state) passes one.place pass NotEnrolled one.inside ∙ ap (λ (at : PassView). at.state) (one.at pass) ∙ waits in
+      let inside : one.place < length (states_of passes) = omega (arith, one.inside, length-map passes (λ (at : PassView). at.state)) in
       record {
         is = kept.core.core;
         thread = one.place;
@@ -109,49 +109,49 @@ module _ (s : Settings) (words : List ℕ) (views : List (List Pass)) (id : ℕ)
       → IsKept s (set words enrolment_place new_word) (set views id (before ++ enrolled_pass pass (shared_in s words).enrolled kept.history ∷ rest))
   enrol-kept new_word is_new =
       let number = (shared_in s words).enrolled in
-      let passes = joined views in
-      let new : Pass = enrolled_pass pass number kept.history in
+      let passes = joined_passes views in
+      let new : PassView = enrolled_pass pass number kept.history in
       let new_words = set words enrolment_place new_word in
       let has_one = servers-some s words views kept in
       let servers = (shared_in s words).servers in
       let core : CoreState = core_in s words passes in
-      let inside : one.place < length (states_of passes) = omega (arith, one.inside, length-map passes (λ (at : Pass). at.state)) in
+      let inside : one.place < length (states_of passes) = omega (arith, one.inside, length-map passes (λ (at : PassView). at.state)) in
       let stands_in : thread_at core one.place ≡ NotEnrolled =
-      get_or-map (λ (at : Pass). at.state) passes one.place pass NotEnrolled one.inside ∙ ap (λ (at : Pass). at.state) (one.at pass) ∙ waits in
-      let threads : states_of (joined (set views id (before ++ new ∷ rest))) ≡ set (states_of passes) one.place (Idle number) =
-      ap states_of (one.sets new) ∙ map-set (λ (at : Pass). at.state) passes one.place new in
+      get_or-map (λ (at : PassView). at.state) passes one.place pass NotEnrolled one.inside ∙ ap (λ (at : PassView). at.state) (one.at pass) ∙ waits in
+      let threads : states_of (joined_passes (set views id (before ++ new ∷ rest))) ≡ set (states_of passes) one.place (Idle number) =
+      ap states_of (one.sets new) ∙ map-set (λ (at : PassView). at.state) passes one.place new in
       let shared : shared_in s new_words ≡ record { servers = servers; slots = (shared_in s words).slots; enrolled = number + 1 } =
       shared-enrolled s words new_word has_one ∙ (λ i. record { servers = servers; slots = (shared_in s words).slots; enrolled = is_new i }) in
-      let core_is : core_in s new_words (joined (set views id (before ++ new ∷ rest))) ≡ after_enrol core one.place =
+      let core_is : core_in s new_words (joined_passes (set views id (before ++ new ∷ rest))) ≡ after_enrol core one.place =
       λ i. record { settings = s; shared = shared i; threads = threads i } in
       let same_servers : servers ≡ (shared_in s new_words).servers = sym (ap (λ (it : Shared). it.servers) shared) in
-      let owned : OwnsItsMarks servers pass =
-      subst (OwnsItsMarks servers) (one.at pass) (kept.core.owned one.place pass one.inside) in
+      let owned : PassOwnsItsMarks servers pass =
+      subst (PassOwnsItsMarks servers) (one.at pass) (kept.core.owned one.place pass one.inside) in
       let no_call : pass.mine ≡ [] =
-      subst (λ drew. StandsIn drew kept.history pass) (ap number_of waits)
+      subst (λ drew. StandsIn drew kept.history pass) (ap drawn_number waits)
       (subst (HasItsChanges kept.history) (one.at pass) (kept.told.mine one.place pass one.inside)) in
       let told : HasItsChanges kept.history new =
       (none-made number kept.history kept.told.drawn ∙ ap (λ mine. changes_in number mine ++ []) (sym no_call), refl) in
-      let owned_now : OwnsItsMarks servers new = λ at.
-      owned at ∙ ap (λ state. is_marked_by (number_of state) (server_at servers at).mark) waits
+      let owned_now : PassOwnsItsMarks servers new = λ at.
+      owned at ∙ ap (λ state. is_marked_by (drawn_number state) (server_at servers at).mark) waits
       ∙ sym (undrawn number (server_at servers at).mark (λ other mine. kept.core.core.owners at other mine)) in
       record {
         core = record {
           valid = subst (All IsWord) (sym (health-enrolled s words new_word)) kept.core.valid;
           core = subst IsCore (sym core_is) (IsCore-after_enrol core one.place kept.core.core inside stands_in);
-          owned = subst (λ it. All (OwnsItsMarks it) (joined (set views id (before ++ new ∷ rest)))) same_servers
-              (subst (All (OwnsItsMarks servers)) (sym (one.sets new)) (All-set (OwnsItsMarks servers) passes one.place new owned_now kept.core.owned));
-          settings = subst (All (λ (at : Pass). at.settings ≡ s)) (sym (one.sets new))
-              (All-set (λ (at : Pass). at.settings ≡ s) passes one.place new
-              (subst (λ (at : Pass). at.settings ≡ s) (one.at pass) (kept.core.settings one.place pass one.inside)) kept.core.settings);
+          owned = subst (λ it. All (PassOwnsItsMarks it) (joined_passes (set views id (before ++ new ∷ rest)))) same_servers
+              (subst (All (PassOwnsItsMarks servers)) (sym (one.sets new)) (All-set (PassOwnsItsMarks servers) passes one.place new owned_now kept.core.owned));
+          settings = subst (All (λ (at : PassView). at.settings ≡ s)) (sym (one.sets new))
+              (All-set (λ (at : PassView). at.settings ≡ s) passes one.place new
+              (subst (λ (at : PassView). at.settings ≡ s) (one.at pass) (kept.core.settings one.place pass one.inside)) kept.core.settings);
         };
         history = kept.history;
         told = record {
           replays = subst (λ it. Replays s kept.history it) same_servers kept.told.replays;
-          seen = subst (All (λ (at : Pass). Begins at.seen kept.history)) (sym (one.sets new))
-              (All-set (λ (at : Pass). Begins at.seen kept.history) passes one.place new (Begins-all kept.history) kept.told.seen);
-          planned = subst (All (λ (at : Pass). IsPlanned s at.state)) (sym (one.sets new))
-              (All-set (λ (at : Pass). IsPlanned s at.state) passes one.place new tt kept.told.planned);
+          seen = subst (All (λ (at : PassView). Begins at.seen kept.history)) (sym (one.sets new))
+              (All-set (λ (at : PassView). Begins at.seen kept.history) passes one.place new (Begins-all kept.history) kept.told.seen);
+          planned = subst (All (λ (at : PassView). IsPlanned s at.state)) (sym (one.sets new))
+              (All-set (λ (at : PassView). IsPlanned s at.state) passes one.place new tt kept.told.planned);
           drawn = subst (λ enrolled. All (λ (change : Change). change.number < enrolled) kept.history)
               (sym (ap (λ (it : Shared). it.enrolled) shared))
               (All-weaker (λ (change : Change). change.number < number) (λ (change : Change). change.number < number + 1)
@@ -161,21 +161,21 @@ module _ (s : Settings) (words : List ℕ) (views : List (List Pass)) (id : ℕ)
         };
       }
 
-pub All-left : (P : Pass → Type 0) (one other : List Pass) → All P (one ++ other) → All P one
+pub All-left : (P : PassView → Type 0) (one other : List PassView) → All P (one ++ other) → All P one
 All-left P [] other all = All-nil P
 All-left P (pass ∷ one) other all =
     All-cons P pass one (All-head P pass (one ++ other) all) (All-left P one other (All-tail P pass (one ++ other) all))
 
-pub All-right : (P : Pass → Type 0) (one other : List Pass) → All P (one ++ other) → All P other
+pub All-right : (P : PassView → Type 0) (one other : List PassView) → All P (one ++ other) → All P other
 All-right P [] other all = all
 All-right P (pass ∷ one) other all = All-right P one other (All-tail P pass (one ++ other) all)
 
 -- the passes of one seat have seen beginnings of the history
-pub seen-view : (P : Pass → Type 0) (views : List (List Pass)) (id : ℕ) (view : List Pass) → get_elem? views id ≡ some view → All P (joined views) → All P view
+pub seen-view : (P : PassView → Type 0) (views : List (List PassView)) (id : ℕ) (view : List PassView) → get_elem? views id ≡ some view → All P (joined_passes views) → All P view
 seen-view P [] id view e all = absurd (some-ne-none view (sym e))
 seen-view P (first ∷ views) zero view e all =
-    subst (All P) (some-injective first view e) (All-left P first (joined views) all)
-seen-view P (first ∷ views) (suc id) view e all = seen-view P views id view e (All-right P first (joined views) all)
+    subst (All P) (some-injective first view e) (All-left P first (joined_passes views) all)
+seen-view P (first ∷ views) (suc id) view e all = seen-view P views id view e (All-right P first (joined_passes views) all)
 
 -- an enrolment
 pub allows-enrol : (s : Settings) (slots id : ℕ) (me : Seat) → count_enrolled me.0 < length me.0
@@ -186,9 +186,9 @@ allows-enrol s slots id me some_wait state kept homes at fits =
     let number = get_or state.words enrolment_place 0 in
     let few_drawn = few s state.words state.views id first.earlier first.later first.pass kept there first.waits in
     let next : (number + 1) % 2 ^ 64 ≡ number + 1 = omega (arith, few_drawn) in
-    let same_settings = λ (pass : Pass) (rest : List Pass) (is : me.0 ≡ pass ∷ rest).
-    All-head (λ (at : Pass). at.settings ≡ s) pass rest
-    (subst (All (λ (at : Pass). at.settings ≡ s)) is (seen-view (λ (at : Pass). at.settings ≡ s) state.views id me.0 at kept.core.settings)) in (
+    let same_settings = λ (pass : PassView) (rest : List PassView) (is : me.0 ≡ pass ∷ rest).
+    All-head (λ (at : PassView). at.settings ≡ s) pass rest
+    (subst (All (λ (at : PassView). at.settings ≡ s)) is (seen-view (λ (at : PassView). at.settings ≡ s) state.views id me.0 at kept.core.settings)) in (
       first.earlier ++ enrolled_pass first.pass number kept.history ∷ first.later,
       keeps,
       tt,
@@ -197,11 +197,11 @@ allows-enrol s slots id me some_wait state kept homes at fits =
         record {
           history = kept.history;
           few = fewer s state.words state.views id first.earlier first.later first.pass kept there first.waits;
-          begins = seen-view (λ (at : Pass). Begins at.seen kept.history) state.views id me.0 at kept.told.seen;
+          begins = seen-view (λ (at : PassView). Begins at.seen kept.history) state.views id me.0 at kept.told.seen;
           drew = sym (first.enrols number kept.history);
-          core = core_in s state.words (joined state.views);
+          core = core_in s state.words (joined_passes state.views);
           enrols = core-enrols s state.words state.views id first.earlier first.later first.pass kept there first.waits;
-          settings = seen-view (λ (at : Pass). at.settings ≡ s) state.views id me.0 at kept.core.settings;
+          settings = seen-view (λ (at : PassView). at.settings ≡ s) state.views id me.0 at kept.core.settings;
           replays = kept.told.replays;
           made = seen-view (HasItsChanges kept.history) state.views id me.0 at kept.told.mine;
           drawn = kept.told.drawn;

@@ -10,13 +10,13 @@ use lib.ListN.{get_elem?}
 use Rattle.atomic_table.proofs.Lists.{set_else, set_here}
 use Rattle.atomic_table.specs.Table.{Joins}
 use Rattle.tko_model.specs.Settings.{Settings}
-use Rattle.tko_steps.specs.Core.{number_of}
+use Rattle.tko_steps.specs.Core.{drawn_number}
 use Rattle.tko_steps.specs.Invariant.{IsCore}
 use Rattle.tko_table.specs.declared.pass.Change.{Change}
-use Rattle.tko_table.specs.declared.pass.Pass.{Pass}
+use Rattle.tko_table.specs.declared.pass.PassView.{PassView}
 use Rattle.tko_table.specs.History.{Begins}
-use Rattle.tko_table.specs.Passes.{OwnsItsMarks, HasItsChanges, longest_seen, raised, with_seen}
-use Rattle.tko_table.specs.Rule.{IsKept, IsPlanned, core_in, joined, shared_in, states_of}
+use Rattle.tko_table.specs.Passes.{PassOwnsItsMarks, HasItsChanges, longest_seen, passes_raised, with_seen}
+use Rattle.tko_table.specs.Rule.{IsKept, IsPlanned, core_in, joined_passes, shared_in, states_of}
 use Rattle.tko_table.proofs.AllowsLemmas.{Rule, there-lt}
 use Rattle.tko_table.proofs.ThreadChangeLemmas.{told-seen}
 use Rattle.tko_table.proofs.EnrolRuleLemmas.{All-left, All-right, seen-view}
@@ -25,89 +25,89 @@ use Rattle.tko_table.proofs.SplitLemmas.{kept-permuted}
 -- ---- the passes of one seat go to another
 
 -- lists in another order, where two of three change places
-swapped : (one two three : List Pass) → IsPermutation (one ++ (two ++ three)) (two ++ (one ++ three))
+swapped : (one two three : List PassView) → IsPermutation (one ++ (two ++ three)) (two ++ (one ++ three))
 swapped one two three =
-    let P : List Pass → Type 0 = λ it. IsPermutation it (two ++ (one ++ three)) in
-    let Q : List Pass → Type 0 = λ it. IsPermutation ((one ++ two) ++ three) it in
+    let P : List PassView → Type 0 = λ it. IsPermutation it (two ++ (one ++ three)) in
+    let Q : List PassView → Type 0 = λ it. IsPermutation ((one ++ two) ++ three) it in
     subst P (append_assoc one two three)
     (subst Q (append_assoc two one three)
     (IsPermutation-append_left three (one ++ two) (two ++ one) (IsPermutation-append_comm one two)))
 
-pub taken-out : (views : List (List Pass)) (other : ℕ) (view : List Pass) → get_elem? views other ≡ some view
-    → IsPermutation (joined views) (view ++ joined (set views other []))
+pub taken-out : (views : List (List PassView)) (other : ℕ) (view : List PassView) → get_elem? views other ≡ some view
+    → IsPermutation (joined_passes views) (view ++ joined_passes (set views other []))
 taken-out [] other view e = absurd (some-ne-none view (sym e))
 taken-out (first ∷ views) zero view e =
     let same : first ≡ view = some-injective first view e in
-    subst (λ it. IsPermutation (it ++ joined views) (view ++ joined views)) (sym same) (IsPermutation-refl (view ++ joined views))
+    subst (λ it. IsPermutation (it ++ joined_passes views) (view ++ joined_passes views)) (sym same) (IsPermutation-refl (view ++ joined_passes views))
 taken-out (first ∷ views) (suc other) view e =
-    let rest = joined (set views other []) in
-    IsPermutation-trans (first ++ joined views) (first ++ (view ++ rest)) (view ++ (first ++ rest))
-    (IsPermutation-append_right first (joined views) (view ++ rest) (taken-out views other view e))
+    let rest = joined_passes (set views other []) in
+    IsPermutation-trans (first ++ joined_passes views) (first ++ (view ++ rest)) (view ++ (first ++ rest))
+    (IsPermutation-append_right first (joined_passes views) (view ++ rest) (taken-out views other view e))
     (swapped first view rest)
 
-put-in : (views : List (List Pass)) (id : ℕ) (view more : List Pass) → get_elem? views id ≡ some view
-    → IsPermutation (more ++ joined views) (joined (set views id (view ++ more)))
+put-in : (views : List (List PassView)) (id : ℕ) (view more : List PassView) → get_elem? views id ≡ some view
+    → IsPermutation (more ++ joined_passes views) (joined_passes (set views id (view ++ more)))
 put-in [] id view more e = absurd (some-ne-none view (sym e))
 put-in (first ∷ views) zero view more e =
     let same : first ≡ view = some-injective first view e in
-    let P : List Pass → Type 0 = λ it. IsPermutation (more ++ (view ++ joined views)) it in
-    subst (λ it. IsPermutation (more ++ (it ++ joined views)) ((view ++ more) ++ joined views)) (sym same)
-    (subst P (sym (append_assoc view more (joined views))) (swapped more view (joined views)))
+    let P : List PassView → Type 0 = λ it. IsPermutation (more ++ (view ++ joined_passes views)) it in
+    subst (λ it. IsPermutation (more ++ (it ++ joined_passes views)) ((view ++ more) ++ joined_passes views)) (sym same)
+    (subst P (sym (append_assoc view more (joined_passes views))) (swapped more view (joined_passes views)))
 put-in (first ∷ views) (suc id) view more e =
-    let rest = joined (set views id (view ++ more)) in
-    IsPermutation-trans (more ++ (first ++ joined views)) (first ++ (more ++ joined views)) (first ++ rest)
-    (swapped more first (joined views))
-    (IsPermutation-append_right first (more ++ joined views) rest (put-in views id view more e))
+    let rest = joined_passes (set views id (view ++ more)) in
+    IsPermutation-trans (more ++ (first ++ joined_passes views)) (first ++ (more ++ joined_passes views)) (first ++ rest)
+    (swapped more first (joined_passes views))
+    (IsPermutation-append_right first (more ++ joined_passes views) rest (put-in views id view more e))
 
-moved : (views : List (List Pass)) (id other : ℕ) (view more : List Pass) → get_elem? views id ≡ some view → get_elem? views other ≡ some more
-    → (other ≡ id → ⊥) → IsPermutation (joined views) (joined (set (set views id (view ++ more)) other []))
+moved : (views : List (List PassView)) (id other : ℕ) (view more : List PassView) → get_elem? views id ≡ some view → get_elem? views other ≡ some more
+    → (other ≡ id → ⊥) → IsPermutation (joined_passes views) (joined_passes (set (set views id (view ++ more)) other []))
 moved [] id other view more e f apart = absurd (some-ne-none view (sym e))
 moved (first ∷ views) zero zero view more e f apart = absurd (apart refl)
 moved (first ∷ views) zero (suc other) view more e f apart =
     let same : first ≡ view = some-injective first view e in
-    let rest = joined (set views other []) in
-    let P : List Pass → Type 0 = λ it. IsPermutation (view ++ joined views) it in
-    subst (λ it. IsPermutation (it ++ joined views) ((view ++ more) ++ rest)) (sym same)
-    (subst P (sym (append_assoc view more rest)) (IsPermutation-append_right view (joined views) (more ++ rest) (taken-out views other more f)))
+    let rest = joined_passes (set views other []) in
+    let P : List PassView → Type 0 = λ it. IsPermutation (view ++ joined_passes views) it in
+    subst (λ it. IsPermutation (it ++ joined_passes views) ((view ++ more) ++ rest)) (sym same)
+    (subst P (sym (append_assoc view more rest)) (IsPermutation-append_right view (joined_passes views) (more ++ rest) (taken-out views other more f)))
 moved (first ∷ views) (suc id) zero view more e f apart =
     let same : first ≡ more = some-injective first more f in
-    subst (λ it. IsPermutation (it ++ joined views) (joined (set views id (view ++ more)))) (sym same) (put-in views id view more e)
+    subst (λ it. IsPermutation (it ++ joined_passes views) (joined_passes (set views id (view ++ more)))) (sym same) (put-in views id view more e)
 moved (first ∷ views) (suc id) (suc other) view more e f apart =
-    IsPermutation-append_right first (joined views) (joined (set (set views id (view ++ more)) other []))
+    IsPermutation-append_right first (joined_passes views) (joined_passes (set (set views id (view ++ more)) other []))
     (moved views id other view more e f (λ same. apart (ap suc same)))
 
 -- ---- the passes of one seat see more
 
-with_seen-states : (history : List Change) (passes : List Pass) → states_of (map (with_seen history) passes) ≡ states_of passes
+with_seen-states : (history : List Change) (passes : List PassView) → states_of (map (with_seen history) passes) ≡ states_of passes
 with_seen-states history [] = refl
 with_seen-states history (pass ∷ passes) = ap (λ it. pass.state ∷ it) (with_seen-states history passes)
 
-joined-states : (views : List (List Pass)) (id : ℕ) (view : List Pass) (history : List Change) → get_elem? views id ≡ some view
-    → states_of (joined (set views id (map (with_seen history) view))) ≡ states_of (joined views)
+joined-states : (views : List (List PassView)) (id : ℕ) (view : List PassView) (history : List Change) → get_elem? views id ≡ some view
+    → states_of (joined_passes (set views id (map (with_seen history) view))) ≡ states_of (joined_passes views)
 joined-states [] id view history e = absurd (some-ne-none view (sym e))
 joined-states (first ∷ views) zero view history e =
     let same : first ≡ view = some-injective first view e in
-    let state = λ (pass : Pass). pass.state in
-    map-append state (map (with_seen history) view) (joined views)
-    ∙ ap (λ it. it ++ states_of (joined views)) (with_seen-states history view)
-    ∙ sym (map-append state view (joined views))
-    ∙ ap (λ it. states_of (it ++ joined views)) (sym same)
+    let state = λ (pass : PassView). pass.state in
+    map-append state (map (with_seen history) view) (joined_passes views)
+    ∙ ap (λ it. it ++ states_of (joined_passes views)) (with_seen-states history view)
+    ∙ sym (map-append state view (joined_passes views))
+    ∙ ap (λ it. states_of (it ++ joined_passes views)) (sym same)
 joined-states (first ∷ views) (suc id) view history e =
-    let state = λ (pass : Pass). pass.state in
-    map-append state first (joined (set views id (map (with_seen history) view)))
+    let state = λ (pass : PassView). pass.state in
+    map-append state first (joined_passes (set views id (map (with_seen history) view)))
     ∙ ap (λ it. map state first ++ it) (joined-states views id view history e)
-    ∙ sym (map-append state first (joined views))
+    ∙ sym (map-append state first (joined_passes views))
 
 -- a fact of each pass, where those of one seat have changed
-each-joined : (P : Pass → Type 0) (views : List (List Pass)) (id : ℕ) (view new : List Pass) → get_elem? views id ≡ some view → All P new
-    → All P (joined views) → All P (joined (set views id new))
+each-joined : (P : PassView → Type 0) (views : List (List PassView)) (id : ℕ) (view new : List PassView) → get_elem? views id ≡ some view → All P new
+    → All P (joined_passes views) → All P (joined_passes (set views id new))
 each-joined P [] id view new e mine all = absurd (some-ne-none view (sym e))
-each-joined P (first ∷ views) zero view new e mine all = All-append P new (joined views) mine (All-right P first (joined views) all)
+each-joined P (first ∷ views) zero view new e mine all = All-append P new (joined_passes views) mine (All-right P first (joined_passes views) all)
 each-joined P (first ∷ views) (suc id) view new e mine all =
-    All-append P first (joined (set views id new)) (All-left P first (joined views) all)
-    (each-joined P views id view new e mine (All-right P first (joined views) all))
+    All-append P first (joined_passes (set views id new)) (All-left P first (joined_passes views) all)
+    (each-joined P views id view new e mine (All-right P first (joined_passes views) all))
 
-each-raised : (P : Pass → Type 0) (history : List Change) (passes : List Pass) → ((pass : Pass) → P pass → P (with_seen history pass)) → All P passes
+each-raised : (P : PassView → Type 0) (history : List Change) (passes : List PassView) → ((pass : PassView) → P pass → P (with_seen history pass)) → All P passes
     → All P (map (with_seen history) passes)
 each-raised P history [] keeps all = All-nil P
 each-raised P history (pass ∷ passes) keeps all =
@@ -115,30 +115,30 @@ each-raised P history (pass ∷ passes) keeps all =
     (each-raised P history passes keeps (All-tail P pass passes all))
 
 -- each pass then tells the same
-each-told : (history seen : List Change) (passes : List Pass) → Begins seen history → All (λ (pass : Pass). length pass.seen ≤ length seen) passes
-    → All (λ (pass : Pass). Begins pass.seen history) passes → All (HasItsChanges history) passes
+each-told : (history seen : List Change) (passes : List PassView) → Begins seen history → All (λ (pass : PassView). length pass.seen ≤ length seen) passes
+    → All (λ (pass : PassView). Begins pass.seen history) passes → All (HasItsChanges history) passes
     → All (HasItsChanges history) (map (with_seen seen) passes)
 each-told history seen [] sees_all long sees told = All-nil (HasItsChanges history)
 each-told history seen (pass ∷ passes) sees_all long sees told =
-    let Long : Pass → Type 0 = λ (it : Pass). length it.seen ≤ length seen in
-    let Sees : Pass → Type 0 = λ (it : Pass). Begins it.seen history in
+    let Long : PassView → Type 0 = λ (it : PassView). length it.seen ≤ length seen in
+    let Sees : PassView → Type 0 = λ (it : PassView). Begins it.seen history in
     All-cons (HasItsChanges history) (with_seen seen pass) (map (with_seen seen) passes)
-    (told-seen (number_of pass.state) history seen pass (with_seen seen pass) refl refl refl (All-head Sees pass passes sees) sees_all
+    (told-seen (drawn_number pass.state) history seen pass (with_seen seen pass) refl refl refl (All-head Sees pass passes sees) sees_all
     (All-head Long pass passes long) (All-head (HasItsChanges history) pass passes told))
     (each-told history seen passes sees_all (All-tail Long pass passes long) (All-tail Sees pass passes sees) (All-tail (HasItsChanges history) pass passes told))
 
-kept-raised : (s : Settings) (words : List ℕ) (views : List (List Pass)) (id : ℕ) (view : List Pass) (history : List Change) (kept : IsKept s words views)
-    → get_elem? views id ≡ some view → Begins history kept.history → All (λ (pass : Pass). length pass.seen ≤ length history) view → IsKept s words (set views id (map (with_seen history) view))
+kept-raised : (s : Settings) (words : List ℕ) (views : List (List PassView)) (id : ℕ) (view : List PassView) (history : List Change) (kept : IsKept s words views)
+    → get_elem? views id ≡ some view → Begins history kept.history → All (λ (pass : PassView). length pass.seen ≤ length history) view → IsKept s words (set views id (map (with_seen history) view))
 kept-raised s words views id view history kept there begins long =
     let threads = joined-states views id view history there in
     let new = map (with_seen history) view in
-    let core_is : core_in s words (joined (set views id new)) ≡ core_in s words (joined views) =
+    let core_is : core_in s words (joined_passes (set views id new)) ≡ core_in s words (joined_passes views) =
     λ i. record { settings = s; shared = shared_in s words; threads = threads i } in
-    let Owns : Pass → Type 0 = OwnsItsMarks (shared_in s words).servers in
-    let Under : Pass → Type 0 = λ pass. pass.settings ≡ s in
-    let Sees : Pass → Type 0 = λ pass. Begins pass.seen kept.history in
-    let Plans : Pass → Type 0 = λ pass. IsPlanned s pass.state in
-    let Tells : Pass → Type 0 = HasItsChanges kept.history in
+    let Owns : PassView → Type 0 = PassOwnsItsMarks (shared_in s words).servers in
+    let Under : PassView → Type 0 = λ pass. pass.settings ≡ s in
+    let Sees : PassView → Type 0 = λ pass. Begins pass.seen kept.history in
+    let Plans : PassView → Type 0 = λ pass. IsPlanned s pass.state in
+    let Tells : PassView → Type 0 = HasItsChanges kept.history in
     record {
       core = record {
         valid = kept.core.valid;
@@ -163,28 +163,28 @@ kept-raised s words views id view history kept there begins long =
     }
 
 -- the longest of these beginnings is one too
-longest-begins : (history : List Change) (passes : List Pass) → All (λ (pass : Pass). Begins pass.seen history) passes → Begins (longest_seen passes) history
+longest-begins : (history : List Change) (passes : List PassView) → All (λ (pass : PassView). Begins pass.seen history) passes → Begins (longest_seen passes) history
 longest-begins history [] all = record { rest = history; is = refl }
 longest-begins history (pass ∷ passes) all =
-    let Sees : Pass → Type 0 = λ (it : Pass). Begins it.seen history in
+    let Sees : PassView → Type 0 = λ (it : PassView). Begins it.seen history in
     let rest = longest_seen passes in
     cond_both (ltb (length rest) (length pass.seen)) pass.seen rest (λ it. Begins it history)
     (λ e. All-head Sees pass passes all) (λ e. longest-begins history passes (All-tail Sees pass passes all))
 
-longest-le : (passes : List Pass) → All (λ (pass : Pass). length pass.seen ≤ length (longest_seen passes)) passes
-longest-le [] = All-nil (λ (pass : Pass). length pass.seen ≤ 0)
+longest-le : (passes : List PassView) → All (λ (pass : PassView). length pass.seen ≤ length (longest_seen passes)) passes
+longest-le [] = All-nil (λ (pass : PassView). length pass.seen ≤ 0)
 longest-le (pass ∷ passes) =
     let rest = longest_seen passes in
     let test = ltb (length rest) (length pass.seen) in
-    cond_both test pass.seen rest (λ it. All (λ (at : Pass). length at.seen ≤ length it) (pass ∷ passes))
+    cond_both test pass.seen rest (λ it. All (λ (at : PassView). length at.seen ≤ length it) (pass ∷ passes))
     (λ e.
     let less = ltb-true (length rest) (length pass.seen) e in
-    All-cons (λ (at : Pass). length at.seen ≤ length pass.seen) pass passes (omega arith)
-    (All-weaker (λ (at : Pass). length at.seen ≤ length rest) (λ (at : Pass). length at.seen ≤ length pass.seen)
+    All-cons (λ (at : PassView). length at.seen ≤ length pass.seen) pass passes (omega arith)
+    (All-weaker (λ (at : PassView). length at.seen ≤ length rest) (λ (at : PassView). length at.seen ≤ length pass.seen)
     (λ at le. omega (arith, le, less)) passes (longest-le passes)))
     (λ e.
     let le = ltb-false (length rest) (length pass.seen) e in
-    All-cons (λ (at : Pass). length at.seen ≤ length rest) pass passes (omega (arith, le)) (longest-le passes))
+    All-cons (λ (at : PassView). length at.seen ≤ length rest) pass passes (omega (arith, le)) (longest-le passes))
 
 -- ---- the rule
 
@@ -200,21 +200,21 @@ set_apart (x ∷ xs) zero (suc j) one two three apart = refl
 set_apart (x ∷ xs) (suc i) zero one two three apart = ap (λ it. two ∷ it) (set_again_at xs i one three)
 set_apart (x ∷ xs) (suc i) (suc j) one two three apart = ap (λ it. x ∷ it) (set_apart xs i j one two three (λ same. apart (ap suc same)))
 
-pub joins : (s : Settings) (id other : ℕ) (view more : List Pass) → Joins (Rule s) id view other more (raised (view ++ more)) []
+pub joins : (s : Settings) (id other : ℕ) (view more : List PassView) → Joins (Rule s) id view other more (passes_raised (view ++ more)) []
 joins s id other view more state kept at apart at_other =
     let views = state.views in
     let both = view ++ more in
-    let there : get_elem? views other ≡ some more = sym (set_else views id other (raised both) apart) ∙ at_other in
+    let there : get_elem? views other ≡ some more = sym (set_else views id other (passes_raised both) apart) ∙ at_other in
     let views_one = set (set views id both) other [] in
     let kept_one = kept-permuted s state.words views views_one (moved views id other view more at there apart) kept in
     let at_one : get_elem? views_one id ≡ some both =
     set_else (set views id both) other id [] (λ same. apart (sym same)) ∙ set_here views id both (there-lt views id view at) in
-    let seen = seen-view (λ (pass : Pass). Begins pass.seen kept_one.history) views_one id both at_one kept_one.told.seen in
-    subst (IsKept s state.words) (set_apart views id other both [] (raised both) apart)
+    let seen = seen-view (λ (pass : PassView). Begins pass.seen kept_one.history) views_one id both at_one kept_one.told.seen in
+    subst (IsKept s state.words) (set_apart views id other both [] (passes_raised both) apart)
     (kept-raised s state.words views_one id both (longest_seen both) kept_one at_one (longest-begins kept_one.history both seen) (longest-le both))
 
 -- two seats are joined, and each pass has seen what it had seen
-pub gathers : (s : Settings) (id other : ℕ) (view more : List Pass) → Joins (Rule s) id view other more (view ++ more) []
+pub gathers : (s : Settings) (id other : ℕ) (view more : List PassView) → Joins (Rule s) id view other more (view ++ more) []
 gathers s id other view more state kept at apart at_other =
     let views = state.views in
     let there : get_elem? views other ≡ some more = sym (set_else views id other (view ++ more) apart) ∙ at_other in

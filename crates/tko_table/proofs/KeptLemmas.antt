@@ -18,20 +18,20 @@ use Rattle.tko_steps.specs.declared.table.Decision.TheVariants.{Goes, Answers}
 use Rattle.tko_steps.specs.declared.table.Observed.{Observed}
 use Rattle.tko_model.specs.declared.mark.Mark.{Mark}
 use Rattle.tko_model.specs.declared.mark.Mark.TheVariants.{Up, Soft, Hard}
-use Rattle.tko_steps.specs.Core.{Shared, after_act, has_number, number_of, seen_by, shared_after, thread_at, names, word_at}
+use Rattle.tko_steps.specs.Core.{Shared, after_act, has_number, drawn_number, seen_by, shared_after, thread_at, names, word_at}
 use Rattle.tko_steps.specs.Steps.{owned_after as owned_after_core, place_of}
 use Rattle.tko_steps.proofs.OwnedLemmas.{own-step}
-use Rattle.tko_steps.specs.Steps.{is_done, state_after}
+use Rattle.tko_steps.specs.Steps.{decided_state, is_done}
 use Rattle.tko_steps.specs.Invariant.{IsCore, IsPhase}
 use Rattle.tko_steps.specs.Table.{action_of, next_of}
 use Rattle.tko_steps.proofs.PhaseStepLemmas.{IsCore-after_act, knows_at}
 use Rattle.tko_steps.proofs.RoomLemmas.{enrolled-le}
 use Rattle.tko_steps.proofs.ThreadLemmas.{number-lt, number-once}
 use Rattle.tko_table.specs.declared.pass.Change.{Change}
-use Rattle.tko_table.specs.declared.pass.Pass.{Pass}
+use Rattle.tko_table.specs.declared.pass.PassView.{PassView}
 use Rattle.tko_table.specs.History.{Begins, Replays, change_by, changes_in, made_by}
-use Rattle.tko_table.specs.Passes.{StandsIn, OwnsItsMarks, HasItsChanges, after_step, changes_by, decided_after, is_marked_by, mine_after, owns, pending}
-use Rattle.tko_table.specs.Rule.{IsKept, IsPlanned, IsPlannedAt, core_in, health_in, joined, shared_in, states_of}
+use Rattle.tko_table.specs.Passes.{StandsIn, PassOwnsItsMarks, HasItsChanges, pass_after_step, changes_by, decided_after, is_marked_by, mine_after, owns, pending}
+use Rattle.tko_table.specs.Rule.{IsKept, IsPlanned, IsPlannedAt, core_in, health_in, joined_passes, shared_in, states_of}
 use Rattle.tko_table.specs.Steps.{Takes}
 use Rattle.tko_table.proofs.AddedChangeLemmas.{made_by-append, sure-from, told-next}
 use Rattle.tko_table.proofs.ThreadChangeLemmas.{changes-drawn, made-changes, other-changes, told-other}
@@ -43,23 +43,23 @@ use Rattle.tko_table.proofs.PlanLemmas.{plans-next}
 
 -- ---- each half, once one pass of a list has changed
 
-number-state_after : (call : Call) (decision : Decision) → number_of (state_after call decision) ≡ Some call.number
+number-state_after : (call : Call) (decision : Decision) → drawn_number (decided_state call decision) ≡ Some call.number
 number-state_after call (Goes lost phase) = refl
 number-state_after call (Answers answer) = refl
 
 -- a fact of each pass, where one pass has changed, and those of the others may rest on their numbers
-pub each-set : (P Q : Pass → Type 0) (passes : List Pass) (place number enrolled : ℕ) (old new : Pass) → place < length passes
-    → ((d : Pass) → get_or passes place d ≡ old) → number_of old.state ≡ Some number
+pub each-set : (P Q : PassView → Type 0) (passes : List PassView) (place number enrolled : ℕ) (old new : PassView) → place < length passes
+    → ((d : PassView) → get_or passes place d ≡ old) → drawn_number old.state ≡ Some number
     → ((at : ℕ) → count_by (has_number at) (states_of passes) ≡ cond (ltb at enrolled) 1 0)
-    → Q new → ((pass : Pass) → (number_of pass.state ≡ Some number → ⊥) → P pass → Q pass)
+    → Q new → ((pass : PassView) → (drawn_number pass.state ≡ Some number → ⊥) → P pass → Q pass)
     → All P passes → All Q (set passes place new)
 each-set P Q passes place number enrolled old new inside stands named each mine others all =
     let threads = states_of passes in
     let same_length : length threads ≡ length passes = length-map passes (λ pass. pass.state) in
     let state_at : (i : ℕ) → i < length passes → get_or threads i NotEnrolled ≡ (get_or passes i old).state =
     λ i it. get_or-map (λ pass. pass.state) passes i old NotEnrolled it in
-    let mine_at : number_of (get_or threads place NotEnrolled) ≡ Some number =
-    ap number_of (state_at place inside) ∙ ap (λ (pass : Pass). number_of pass.state) (stands old) ∙ named in
+    let mine_at : drawn_number (get_or threads place NotEnrolled) ≡ Some number =
+    ap drawn_number (state_at place inside) ∙ ap (λ (pass : PassView). drawn_number pass.state) (stands old) ∙ named in
     All-from_get_or Q (set passes place new) old (λ i at.
     let was : i < length passes = rw length-set at at in
     ⊎_elim
@@ -68,7 +68,7 @@ each-set P Q passes place number enrolled old new inside stands named each mine 
     rw (get_or-set_other passes place i new old apart)
     (others (get_or passes i old)
     (λ theirs. apart (number-once threads enrolled place i number each (omega (arith, same_length, inside)) (omega (arith, same_length, was)) mine_at
-    (ap number_of (state_at i was) ∙ theirs)))
+    (ap drawn_number (state_at i was) ∙ theirs)))
     (all i old was)))
     (cases_eq i place))
 
@@ -83,7 +83,7 @@ All-right_part P (change ∷ one) other all = All-right_part P one other (All-ta
 
 -- ---- the step of a call
 
-module _ (s : Settings) (words new_words : List ℕ) (views : List (List Pass)) (id : ℕ) (before rest : List Pass) (pass : Pass) (call : Call)
+module _ (s : Settings) (words new_words : List ℕ) (views : List (List PassView)) (id : ℕ) (before rest : List PassView) (pass : PassView) (call : Call)
     (phase : Phase) (kept : IsKept s words views) (there : get_elem? views id ≡ some (before ++ pass ∷ rest))
     (stands : pass.state ≡ InCall call phase)
     (left : shared_in s new_words ≡ shared_after s (shared_in s words) call.server (action_of call.number phase))
@@ -94,79 +94,79 @@ module _ (s : Settings) (words new_words : List ℕ) (views : List (List Pass)) 
   abbrev pub history_after : List Change
   history_after = kept.history ++ changes_by call phase (is_done it)
 
-  abbrev pub pass_after : Pass
-  pass_after = after_step pass call phase it kept.history
+  abbrev pub pass_after : PassView
+  pass_after = pass_after_step pass call phase it kept.history
 
-  one : IsOneOf (joined views) pass (λ new. joined (set views id (before ++ new ∷ rest)))
+  one : IsOneOf (joined_passes views) pass (λ new. joined_passes (set views id (before ++ new ∷ rest)))
   one = one-joined views id before rest pass there
 
   same_settings : pass.settings ≡ s
-  same_settings = subst (λ (at : Pass). at.settings ≡ s) (one.at pass) (kept.core.settings one.place pass one.inside)
+  same_settings = subst (λ (at : PassView). at.settings ≡ s) (one.at pass) (kept.core.settings one.place pass one.inside)
 
   planned : IsPlannedAt s call phase
   planned =
-      let mine = subst (λ (at : Pass). IsPlanned s at.state) (one.at pass) (kept.told.planned one.place pass one.inside) in
+      let mine = subst (λ (at : PassView). IsPlanned s at.state) (one.at pass) (kept.told.planned one.place pass one.inside) in
       subst (IsPlanned s) stands mine
 
-  inside : one.place < length (states_of (joined views))
-  inside = omega (arith, one.inside, length-map (joined views) (λ (at : Pass). at.state))
+  inside : one.place < length (states_of (joined_passes views))
+  inside = omega (arith, one.inside, length-map (joined_passes views) (λ (at : PassView). at.state))
 
-  stands_in : thread_at (core_in s words (joined views)) one.place ≡ InCall call phase
-  stands_in = get_or-map (λ (at : Pass). at.state) (joined views) one.place pass NotEnrolled one.inside ∙ ap (λ (at : Pass). at.state) (one.at pass) ∙ stands
+  stands_in : thread_at (core_in s words (joined_passes views)) one.place ≡ InCall call phase
+  stands_in = get_or-map (λ (at : PassView). at.state) (joined_passes views) one.place pass NotEnrolled one.inside ∙ ap (λ (at : PassView). at.state) (one.at pass) ∙ stands
 
-  state_is : pass_after.state ≡ state_after call (next_of s call phase it)
-  state_is = ap (λ (with_settings : Settings). state_after call (next_of with_settings call phase it)) same_settings
+  state_is : pass_after.state ≡ decided_state call (next_of s call phase it)
+  state_is = ap (λ (with_settings : Settings). decided_state call (next_of with_settings call phase it)) same_settings
 
-  threads_are : states_of (joined (set views id (before ++ pass_after ∷ rest)))
-      ≡ set (states_of (joined views)) one.place (state_after call (next_of s call phase it))
+  threads_are : states_of (joined_passes (set views id (before ++ pass_after ∷ rest)))
+      ≡ set (states_of (joined_passes views)) one.place (decided_state call (next_of s call phase it))
   threads_are =
-      ap states_of (one.sets pass_after) ∙ map-set (λ (at : Pass). at.state) (joined views) one.place pass_after
-      ∙ ap (set (states_of (joined views)) one.place) state_is
+      ap states_of (one.sets pass_after) ∙ map-set (λ (at : PassView). at.state) (joined_passes views) one.place pass_after
+      ∙ ap (set (states_of (joined_passes views)) one.place) state_is
 
-  core_is : core_in s new_words (joined (set views id (before ++ pass_after ∷ rest)))
-      ≡ after_act (core_in s words (joined views)) one.place call phase
+  core_is : core_in s new_words (joined_passes (set views id (before ++ pass_after ∷ rest)))
+      ≡ after_act (core_in s words (joined_passes views)) one.place call phase
   core_is = λ i. record { settings = s; shared = left i; threads = threads_are i }
 
-  core_after : IsCore (core_in s new_words (joined (set views id (before ++ pass_after ∷ rest))))
+  core_after : IsCore (core_in s new_words (joined_passes (set views id (before ++ pass_after ∷ rest))))
   core_after =
-      subst IsCore (sym core_is) (IsCore-after_act (core_in s words (joined views)) one.place call kept.core.core inside phase stands_in)
+      subst IsCore (sym core_is) (IsCore-after_act (core_in s words (joined_passes views)) one.place call kept.core.core inside phase stands_in)
 
   effect : Effect s call (shared_in s words).servers (shared_in s new_words).servers pass.owned pass_after.owned (changes_by call phase (is_done it))
   effect =
       subst (λ (shared : Shared). Effect s call (shared_in s words).servers shared.servers pass.owned pass_after.owned (changes_by call phase (is_done it)))
-      (sym left) (effect-of (core_in s words (joined views)) one.place call kept.core.core inside pass.owned phase stands_in planned)
+      (sym left) (effect-of (core_in s words (joined_passes views)) one.place call kept.core.core inside pass.owned phase stands_in planned)
 
-  named : number_of pass.state ≡ Some call.number
-  named = ap number_of stands
+  named : drawn_number pass.state ≡ Some call.number
+  named = ap drawn_number stands
 
-  named_after : number_of pass_after.state ≡ Some call.number
+  named_after : drawn_number pass_after.state ≡ Some call.number
   named_after = number-state_after call (next_of pass.settings call phase it)
 
-  owned_before : OwnsItsMarks (shared_in s words).servers pass
-  owned_before = subst (OwnsItsMarks (shared_in s words).servers) (one.at pass) (kept.core.owned one.place pass one.inside)
+  owned_before : PassOwnsItsMarks (shared_in s words).servers pass
+  owned_before = subst (PassOwnsItsMarks (shared_in s words).servers) (one.at pass) (kept.core.owned one.place pass one.inside)
 
   -- the owned servers of each pass, by what the step did
   owned_by : Effect s call (shared_in s words).servers (shared_in s new_words).servers pass.owned pass_after.owned (changes_by call phase (is_done it))
-      → All (OwnsItsMarks (shared_in s new_words).servers) (set (joined views) one.place pass_after)
+      → All (PassOwnsItsMarks (shared_in s new_words).servers) (set (joined_passes views) one.place pass_after)
   owned_by =
       ⊎_elim
       (λ (quiet : IsQuiet (shared_in s words).servers (shared_in s new_words).servers pass.owned pass_after.owned (changes_by call phase (is_done it))).
-      subst (λ servers. All (OwnsItsMarks servers) (set (joined views) one.place pass_after)) (sym quiet.same)
-      (All-set (OwnsItsMarks (shared_in s words).servers) (joined views) one.place pass_after
+      subst (λ servers. All (PassOwnsItsMarks servers) (set (joined_passes views) one.place pass_after)) (sym quiet.same)
+      (All-set (PassOwnsItsMarks (shared_in s words).servers) (joined_passes views) one.place pass_after
       (λ server. ap (λ owned. owns owned server) quiet.kept ∙ owned_before server
       ∙ ap (λ number. is_marked_by number (server_at (shared_in s words).servers server).mark) (named ∙ sym named_after))
       kept.core.owned))
       (λ (write : IsWritten s call (shared_in s words).servers (shared_in s new_words).servers pass.owned pass_after.owned (changes_by call phase (is_done it))).
       let servers = (shared_in s words).servers in
       let now : ServerState = record { mark = write.mark; stamp = (server_at servers call.server).stamp + 1 } in
-      subst (λ new. All (OwnsItsMarks new) (set (joined views) one.place pass_after)) (sym write.wrote)
-      (each-set (OwnsItsMarks servers) (OwnsItsMarks (set servers call.server now)) (joined views) one.place call.number (shared_in s words).enrolled
+      subst (λ new. All (PassOwnsItsMarks new) (set (joined_passes views) one.place pass_after)) (sym write.wrote)
+      (each-set (PassOwnsItsMarks servers) (PassOwnsItsMarks (set servers call.server now)) (joined_passes views) one.place call.number (shared_in s words).enrolled
       pass pass_after one.inside one.at named kept.core.core.numbers
       (λ server. ap (λ owned. owns owned server) write.gained
       ∙ owned-own servers pass.owned call.server call.number now write.inside write.only
       (λ at. owned_before at ∙ ap (λ number. is_marked_by number (server_at servers at).mark) named) server
       ∙ ap (λ number. is_marked_by number (server_at (set servers call.server now) server).mark) (sym named_after))
-      (λ other apart owns_its. owned-other servers other.owned call.server call.number (number_of other.state) now write.inside write.was write.only apart owns_its)
+      (λ other apart owns_its. owned-other servers other.owned call.server call.number (drawn_number other.state) now write.inside write.was write.only apart owns_its)
       kept.core.owned))
 
   replays_by : Effect s call (shared_in s words).servers (shared_in s new_words).servers pass.owned pass_after.owned (changes_by call phase (is_done it))
@@ -189,7 +189,7 @@ module _ (s : Settings) (words new_words : List ℕ) (views : List (List Pass)) 
 
   -- the changes of its thread, and of the others
   knows : IsPhase s call (server_at (shared_in s words).servers call.server) phase
-  knows = (knows_at (core_in s words (joined views)) one.place call kept.core.core inside phase stands_in).2
+  knows = (knows_at (core_in s words (joined_passes views)) one.place call kept.core.core inside phase stands_in).2
 
   mine_before : StandsIn (Some call.number) kept.history pass
   mine_before =
@@ -207,7 +207,7 @@ module _ (s : Settings) (words new_words : List ℕ) (views : List (List Pass)) 
       let adds = told-next s call pass.mine place_now (shared_in s words) phase planned (sure-from s call (shared_in s words) phase knows) in
       let decided : next_of pass.settings call phase it ≡ next_of s call phase it =
       ap (λ (with_settings : Settings). next_of with_settings call phase it) same_settings in
-      ap (λ (decision : Decision). changes_in call.number (mine_after pass.mine call decision place_now) ++ pending (state_after call decision)) decided
+      ap (λ (decision : Decision). changes_in call.number (mine_after pass.mine call decision place_now) ++ pending (decided_state call decision)) decided
       ∙ adds
       ∙ ap (λ (state : ThreadState). (changes_in call.number pass.mine ++ pending state) ++ changes) (sym stands)
       ∙ ap (λ more. more ++ changes) (sym mine_before.0)
@@ -217,18 +217,18 @@ module _ (s : Settings) (words new_words : List ℕ) (views : List (List Pass)) 
   mine_now : HasItsChanges history_after pass_after
   mine_now = subst (λ drew. StandsIn drew history_after pass_after) (sym named_after) (sym told_after, refl)
 
-  mine_each : All (HasItsChanges history_after) (set (joined views) one.place pass_after)
+  mine_each : All (HasItsChanges history_after) (set (joined_passes views) one.place pass_after)
   mine_each =
-      each-set (HasItsChanges kept.history) (HasItsChanges history_after) (joined views) one.place call.number (shared_in s words).enrolled
+      each-set (HasItsChanges kept.history) (HasItsChanges history_after) (joined_passes views) one.place call.number (shared_in s words).enrolled
       pass pass_after one.inside one.at named kept.core.core.numbers mine_now
       (λ other apart told.
-      told-other (number_of other.state) kept.history changes other
+      told-other (drawn_number other.state) kept.history changes other
       (λ number drew. other-changes number call phase (is_done it) (λ same. apart (drew ∙ ap Some (sym same)))) told)
       kept.told.mine
 
   call_drawn : call.number < (shared_in s words).enrolled
   call_drawn =
-      number-lt (states_of (joined views)) (shared_in s words).enrolled one.place call.number kept.core.core.numbers inside (ap number_of stands_in)
+      number-lt (states_of (joined_passes views)) (shared_in s words).enrolled one.place call.number kept.core.core.numbers inside (ap drawn_number stands_in)
 
   enrolled_same : (shared_in s words).enrolled ≡ (shared_in s new_words).enrolled
   enrolled_same = sym (ap (λ (shared : Shared). shared.enrolled) left)
@@ -246,31 +246,31 @@ module _ (s : Settings) (words new_words : List ℕ) (views : List (List Pass)) 
         core = record {
           valid = valid;
           core = core_after;
-          owned = subst (All (OwnsItsMarks (shared_in s new_words).servers)) (sym to) (owned_by effect);
-          settings = subst (All (λ (at : Pass). at.settings ≡ s)) (sym to)
-              (All-set (λ (at : Pass). at.settings ≡ s) (joined views) one.place pass_after same_settings kept.core.settings);
+          owned = subst (All (PassOwnsItsMarks (shared_in s new_words).servers)) (sym to) (owned_by effect);
+          settings = subst (All (λ (at : PassView). at.settings ≡ s)) (sym to)
+              (All-set (λ (at : PassView). at.settings ≡ s) (joined_passes views) one.place pass_after same_settings kept.core.settings);
         };
         history = history_after;
         told = record {
           replays = replays_by effect;
-          seen = subst (All (λ (at : Pass). Begins at.seen history_after)) (sym to)
-              (All-set (λ (at : Pass). Begins at.seen history_after) (joined views) one.place pass_after (Begins-all history_after)
-              (All-weaker (λ (at : Pass). Begins at.seen kept.history) (λ (at : Pass). Begins at.seen history_after)
-              (λ at begins. Begins-more at.seen kept.history (changes_by call phase (is_done it)) begins) (joined views) kept.told.seen));
-          planned = subst (All (λ (at : Pass). IsPlanned s at.state)) (sym to)
-              (All-set (λ (at : Pass). IsPlanned s at.state) (joined views) one.place pass_after planned_after kept.told.planned);
+          seen = subst (All (λ (at : PassView). Begins at.seen history_after)) (sym to)
+              (All-set (λ (at : PassView). Begins at.seen history_after) (joined_passes views) one.place pass_after (Begins-all history_after)
+              (All-weaker (λ (at : PassView). Begins at.seen kept.history) (λ (at : PassView). Begins at.seen history_after)
+              (λ at begins. Begins-more at.seen kept.history (changes_by call phase (is_done it)) begins) (joined_passes views) kept.told.seen));
+          planned = subst (All (λ (at : PassView). IsPlanned s at.state)) (sym to)
+              (All-set (λ (at : PassView). IsPlanned s at.state) (joined_passes views) one.place pass_after planned_after kept.told.planned);
           drawn = drawn_after;
           mine = subst (All (HasItsChanges history_after)) (sym to) mine_each;
         };
       }
 
   begins : Begins pass.seen kept.history
-  begins = subst (λ (at : Pass). Begins at.seen kept.history) (one.at pass) (kept.told.seen one.place pass one.inside)
+  begins = subst (λ (at : PassView). Begins at.seen kept.history) (one.at pass) (kept.told.seen one.place pass one.inside)
 
-  owns_after : OwnsItsMarks (shared_in s new_words).servers pass_after
+  owns_after : PassOwnsItsMarks (shared_in s new_words).servers pass_after
   owns_after =
-      let inside_after : one.place < length (set (joined views) one.place pass_after) = rw length-set one.inside in
-      subst (OwnsItsMarks (shared_in s new_words).servers) (get_or-set_same (joined views) one.place pass_after pass one.inside)
+      let inside_after : one.place < length (set (joined_passes views) one.place pass_after) = rw length-set one.inside in
+      subst (PassOwnsItsMarks (shared_in s new_words).servers) (get_or-set_same (joined_passes views) one.place pass_after pass one.inside)
       (owned_by effect one.place pass inside_after)
 
   -- the changes since it looked last are others'
@@ -283,7 +283,7 @@ module _ (s : Settings) (words new_words : List ℕ) (views : List (List Pass)) 
 
   drawn_between : All (λ (change : Change). change.number < pass.settings.threads) begins.rest
   drawn_between =
-      let le = enrolled-le (core_in s words (joined views)) kept.core.core in
+      let le = enrolled-le (core_in s words (joined_passes views)) kept.core.core in
       let threads = kept.core.core.threads in
       let all = subst (All (λ (change : Change). change.number < (shared_in s words).enrolled)) begins.is kept.told.drawn in
       All-weaker (λ (change : Change). change.number < (shared_in s words).enrolled) (λ (change : Change). change.number < pass.settings.threads)
@@ -294,7 +294,7 @@ module _ (s : Settings) (words new_words : List ℕ) (views : List (List Pass)) 
   gained : (server : ℕ) → owns pass_after.owned server
       ≡ owned_after_core s call phase (word_at (shared_in s words) (place_of s call.server (action_of call.number phase))) (owns pass.owned) server
   gained server =
-      let knows = knows_at (core_in s words (joined views)) one.place call kept.core.core inside phase stands_in in
+      let knows = knows_at (core_in s words (joined_passes views)) one.place call kept.core.core inside phase stands_in in
       owns_after server ∙ ap (λ number. is_marked_by number (server_at (shared_in s new_words).servers server).mark) named_after
       ∙ names-is call.number (server_at (shared_in s new_words).servers server).mark
       ∙ ap (λ (shared : Shared). names (server_at shared.servers server).mark (Some call.number)) left
@@ -305,7 +305,7 @@ module _ (s : Settings) (words new_words : List ℕ) (views : List (List Pass)) 
   pub act-takes : Takes pass call phase it pass_after
   act-takes =
       record {
-        core = core_in s words (joined views);
+        core = core_in s words (joined_passes views);
         is_found = record { is = kept.core.core; settings = sym same_settings; thread = one.place; inside = inside; stands = stands_in };
         between = begins.rest;
         found = subst (λ with_settings. Replays with_settings (pass.seen ++ begins.rest) (shared_in s words).servers) (sym same_settings)
@@ -323,5 +323,5 @@ module _ (s : Settings) (words new_words : List ℕ) (views : List (List Pass)) 
             ≡ owned_after_core with_settings call phase (word_at (shared_in s words) (place_of with_settings call.server (action_of call.number phase)))
             (owns pass.owned) server)
             (sym same_settings) gained;
-        knows = ap (after_step pass call phase it) begins.is;
+        knows = ap (pass_after_step pass call phase it) begins.is;
       }

@@ -11,9 +11,9 @@ use Rattle.tko_steps.specs.Core.{Shared, opened_core, opened_words, no_slots, sl
 use Rattle.tko_steps.specs.Invariant.{IsCore}
 use Rattle.tko_steps.proofs.BeginLemmas.{IsCore-opened_core}
 use Rattle.tko_table.specs.declared.pass.Change.{Change}
-use Rattle.tko_table.specs.declared.pass.Pass.{Pass}
+use Rattle.tko_table.specs.declared.pass.PassView.{PassView}
 use Rattle.tko_table.specs.History.{Begins}
-use Rattle.tko_table.specs.Passes.{OwnsItsMarks, HasItsChanges, new_pass, new_passes}
+use Rattle.tko_table.specs.Passes.{PassOwnsItsMarks, HasItsChanges, new_pass, new_passes}
 use Rattle.tko_table.specs.Rule.{IsKept, IsOpened, IsPlanned, core_in, shared_in, states_of, health_in, soft_in}
 use Rattle.tko_model.specs.Groups.{groups}
 
@@ -65,25 +65,25 @@ opened-kept s words ranges is_opened =
     let passes = new_passes s in
     let same : passes ++ [] ≡ passes = append-nil passes in
     let threads : states_of (passes ++ []) ≡ replicate s.threads NotEnrolled =
-    ap states_of same ∙ map-replicate (λ (pass : Pass). pass.state) s.threads (new_pass s) in
+    ap states_of same ∙ map-replicate (λ (pass : PassView). pass.state) s.threads (new_pass s) in
     let core_is : core_in s words (passes ++ []) ≡ opened_core s =
     λ i. record { settings = s; shared = is_opened.shared i; threads = threads i } in
     record {
       core = record {
         valid = is_opened.valid;
         core = subst IsCore (sym core_is) (IsCore-opened_core s ranges);
-        owned = subst (All (OwnsItsMarks (shared_in s words).servers)) (sym same)
-            (All-replicate (OwnsItsMarks (shared_in s words).servers) s.threads (new_pass s) (λ server. refl));
-        settings = subst (All (λ (at : Pass). at.settings ≡ s)) (sym same)
-            (All-replicate (λ (at : Pass). at.settings ≡ s) s.threads (new_pass s) refl);
+        owned = subst (All (PassOwnsItsMarks (shared_in s words).servers)) (sym same)
+            (All-replicate (PassOwnsItsMarks (shared_in s words).servers) s.threads (new_pass s) (λ server. refl));
+        settings = subst (All (λ (at : PassView). at.settings ≡ s)) (sym same)
+            (All-replicate (λ (at : PassView). at.settings ≡ s) s.threads (new_pass s) refl);
       };
       history = [];
       told = record {
         replays = record { leads = ap (λ (shared : Shared). shared.servers) is_opened.shared };
-        seen = subst (All (λ (at : Pass). Begins at.seen [])) (sym same)
-            (All-replicate (λ (at : Pass). Begins at.seen []) s.threads (new_pass s) (record { rest = []; is = refl }));
-        planned = subst (All (λ (at : Pass). IsPlanned s at.state)) (sym same)
-            (All-replicate (λ (at : Pass). IsPlanned s at.state) s.threads (new_pass s) tt);
+        seen = subst (All (λ (at : PassView). Begins at.seen [])) (sym same)
+            (All-replicate (λ (at : PassView). Begins at.seen []) s.threads (new_pass s) (record { rest = []; is = refl }));
+        planned = subst (All (λ (at : PassView). IsPlanned s at.state)) (sym same)
+            (All-replicate (λ (at : PassView). IsPlanned s at.state) s.threads (new_pass s) tt);
         drawn = All-nil (λ (change : Change). change.number < (shared_in s words).enrolled);
         mine = subst (All (HasItsChanges [])) (sym same) (All-replicate (HasItsChanges []) s.threads (new_pass s) refl);
       };

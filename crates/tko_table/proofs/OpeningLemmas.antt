@@ -7,22 +7,22 @@ use Rattle.atomic_table.specs.declared.shared.Seat.{Seat}
 use Rattle.atomic_table.specs.Seated.{TableId}
 use Rattle.tko_model.specs.Settings.{Settings}
 use Rattle.tko_steps.specs.declared.phase.ThreadState.TheVariants.{NotEnrolled, Idle}
-use Rattle.tko_steps.specs.Core.{is_enrolled, number_of}
+use Rattle.tko_steps.specs.Core.{drawn_number, is_enrolled}
 use Rattle.tko_table.specs.declared.pass.Change.{Change}
-use Rattle.tko_table.specs.declared.pass.Pass.{Pass}
+use Rattle.tko_table.specs.declared.pass.PassView.{PassView}
 use Rattle.tko_table.specs.History.{changes_in, made_by}
 use Rattle.tko_table.specs.Opening.{ArePassesFrom, AreSeats, HasPassesFrom, IsPassAt, IsSeatAt}
 use Rattle.tko_table.specs.Passes.{HasItsChanges, StandsIn, pending, count_enrolled, enrol_first, enrolled_pass, new_pass, new_passes}
-use Rattle.tko_table.specs.Steps.{Enrols, view_of}
+use Rattle.tko_table.specs.Steps.{DrawsNumber, view_of}
 
-drawn-state : (s : Settings) (drawn place : ℕ) (pass : Pass) → IsPassAt s drawn place pass → place < drawn → pass.state ≡ Idle place
+drawn-state : (s : Settings) (drawn place : ℕ) (pass : PassView) → IsPassAt s drawn place pass → place < drawn → pass.state ≡ Idle place
 drawn-state s drawn place pass is less = is.state ∙ cond-true (ltb place drawn) (Idle place) NotEnrolled (lt-ltb place drawn less)
 
-waiting-state : (s : Settings) (drawn place : ℕ) (pass : Pass) → IsPassAt s drawn place pass → drawn ≤ place → pass.state ≡ NotEnrolled
+waiting-state : (s : Settings) (drawn place : ℕ) (pass : PassView) → IsPassAt s drawn place pass → drawn ≤ place → pass.state ≡ NotEnrolled
 waiting-state s drawn place pass is le = is.state ∙ cond-false (ltb place drawn) (Idle place) NotEnrolled (le-ltb place drawn le)
 
 -- a pass whose place was drawn, or is not to be drawn next
-pass-still : (s : Settings) (drawn place : ℕ) (pass : Pass) → IsPassAt s drawn place pass → (place ≡ drawn → ⊥) → IsPassAt s (drawn + 1) place pass
+pass-still : (s : Settings) (drawn place : ℕ) (pass : PassView) → IsPassAt s drawn place pass → (place ≡ drawn → ⊥) → IsPassAt s (drawn + 1) place pass
 pass-still s drawn place pass is apart =
     record {
       settings = is.settings;
@@ -38,13 +38,13 @@ pass-still s drawn place pass is apart =
     }
 
 -- none of these is drawn yet, nor the next
-none-drawn : (s : Settings) (drawn place : ℕ) (passes : List Pass) → ArePassesFrom s drawn place passes → drawn < place
+none-drawn : (s : Settings) (drawn place : ℕ) (passes : List PassView) → ArePassesFrom s drawn place passes → drawn < place
     → ArePassesFrom s (drawn + 1) place passes
 none-drawn s drawn place [] are less = tt
 none-drawn s drawn place (pass ∷ passes) are less =
     (pass-still s drawn place pass are.0 (λ e. omega arith), none-drawn s drawn (place + 1) passes are.1 (omega arith))
 
-none-count : (s : Settings) (drawn place : ℕ) (passes : List Pass) → ArePassesFrom s drawn place passes → drawn ≤ place → count_enrolled passes ≡ 0
+none-count : (s : Settings) (drawn place : ℕ) (passes : List PassView) → ArePassesFrom s drawn place passes → drawn ≤ place → count_enrolled passes ≡ 0
 none-count s drawn place [] are le = refl
 none-count s drawn place (pass ∷ passes) are le =
     let waits : is_enrolled pass.state ≡ false = ap is_enrolled (waiting-state s drawn place pass are.0 le) in
@@ -52,7 +52,7 @@ none-count s drawn place (pass ∷ passes) are le =
     ∙ none-count s drawn (place + 1) passes are.1 (omega arith)
 
 -- so many are enrolled
-pub drawn-count : (s : Settings) (drawn place : ℕ) (passes : List Pass) → ArePassesFrom s drawn place passes → place ≤ drawn
+pub drawn-count : (s : Settings) (drawn place : ℕ) (passes : List PassView) → ArePassesFrom s drawn place passes → place ≤ drawn
     → drawn ≤ place + length passes → place + count_enrolled passes ≡ drawn
 drawn-count s drawn place [] are le within = omega arith
 drawn-count s drawn place (pass ∷ passes) are le within =
@@ -66,11 +66,11 @@ drawn-count s drawn place (pass ∷ passes) are le within =
     (cases_lt place drawn)
 
 -- the next number goes to the pass of that place
-pub drawn-next : (s : Settings) (drawn place : ℕ) (passes : List Pass) (history : List Change) → ArePassesFrom s drawn place passes → history ≡ []
+pub drawn-next : (s : Settings) (drawn place : ℕ) (passes : List PassView) (history : List Change) → ArePassesFrom s drawn place passes → history ≡ []
     → place ≤ drawn → drawn < place + length passes → ArePassesFrom s (drawn + 1) place (enrol_first passes drawn history)
 drawn-next s drawn place [] history are nothing le within = absurd (omega arith)
 drawn-next s drawn place (pass ∷ passes) history are nothing le within =
-    let P : List Pass → Type 0 = ArePassesFrom s (drawn + 1) place in
+    let P : List PassView → Type 0 = ArePassesFrom s (drawn + 1) place in
     ⊎_elim
     (λ (less : place < drawn).
     let enrolled : is_enrolled pass.state ≡ true = ap is_enrolled (drawn-state s drawn place pass are.0 less) in
@@ -91,15 +91,15 @@ drawn-next s drawn place (pass ∷ passes) history are nothing le within =
     ))
     (cases_lt place drawn)
 
-enrol_first-length : (passes : List Pass) (number : ℕ) (history : List Change) → length (enrol_first passes number history) ≡ length passes
+enrol_first-length : (passes : List PassView) (number : ℕ) (history : List Change) → length (enrol_first passes number history) ≡ length passes
 enrol_first-length [] number history = refl
 enrol_first-length (pass ∷ passes) number history =
-    let P : List Pass → Type 0 = λ it. length it ≡ suc (length passes) in
+    let P : List PassView → Type 0 = λ it. length it ≡ suc (length passes) in
     cond_both (is_enrolled pass.state) (pass ∷ enrol_first passes number history) (enrolled_pass pass number history ∷ passes) P
     (λ e. ap suc (enrol_first-length passes number history)) (λ e. refl)
 
 -- the threads that are enrolled made no call, so that no change is theirs
-none-by : (s : Settings) (drawn place : ℕ) (passes : List Pass) (history : List Change) → ArePassesFrom s drawn place passes
+none-by : (s : Settings) (drawn place : ℕ) (passes : List PassView) (history : List Change) → ArePassesFrom s drawn place passes
     → All (HasItsChanges history) passes → (number : ℕ) → place ≤ number → number < drawn → number < place + length passes
     → made_by number history ≡ []
 none-by s drawn place [] history are made number le low within = absurd (omega arith)
@@ -110,7 +110,7 @@ none-by s drawn place (pass ∷ passes) history are made number le low within =
     (λ (at_least : number ≤ place).
     let here : number ≡ place = omega arith in
     let state = drawn-state s drawn place pass are.0 (omega arith) in
-    let stands = subst (λ drew. StandsIn drew history pass) (ap number_of state) (All-head (HasItsChanges history) pass passes made) in
+    let stands = subst (λ drew. StandsIn drew history pass) (ap drawn_number state) (All-head (HasItsChanges history) pass passes made) in
     ap (λ it. made_by it history) here ∙ stands.0 ∙ (λ i. changes_in place (are.0.mine i) ++ pending (state i)))
     (cases_lt place number)
 
@@ -125,11 +125,11 @@ nothing-made drawn (change ∷ changes) none low =
     absurd (cc own)
 
 -- one enrolment of the seat that has all passes
-pub enrolled-one : (s : Settings) (drawn : ℕ) (before : List Pass) (number : ℕ) (after : List Pass) → HasPassesFrom s drawn 0 before → drawn < s.threads
-    → Enrols before number after → HasPassesFrom s (drawn + 1) 0 after
+pub enrolled-one : (s : Settings) (drawn : ℕ) (before : List PassView) (number : ℕ) (after : List PassView) → HasPassesFrom s drawn 0 before → drawn < s.threads
+    → DrawsNumber before number after → HasPassesFrom s (drawn + 1) 0 after
 enrolled-one s drawn [] number after has less enrols = absurd (let count = has.count in omega arith)
 enrolled-one s drawn (pass ∷ rest) number after has less enrols =
-    let before : List Pass = pass ∷ rest in
+    let before : List PassView = pass ∷ rest in
     let count = drawn-count s drawn 0 before has.each (omega arith) (omega (arith, has.count)) in
     let all : length before ≡ pass.settings.threads = omega (arith, has.count, ap (λ (it : Settings). it.threads) has.each.0.settings) in
     let is : number ≡ drawn = enrols.all pass rest refl all ∙ (omega (arith, count)) in
@@ -143,7 +143,7 @@ enrolled-one s drawn (pass ∷ rest) number after has less enrols =
       each = drawn-next s drawn 0 before enrols.history has.each nothing (omega arith) (omega (arith, has.count));
     })
 
-pub wait-left : (s : Settings) (drawn : ℕ) (view : List Pass) → HasPassesFrom s drawn 0 view → drawn < s.threads → count_enrolled view < length view
+pub wait-left : (s : Settings) (drawn : ℕ) (view : List PassView) → HasPassesFrom s drawn 0 view → drawn < s.threads → count_enrolled view < length view
 wait-left s drawn view has less =
     omega (arith, has.count, drawn-count s drawn 0 view has.each (omega arith) (omega (arith, has.count)))
 
@@ -158,19 +158,19 @@ opened-passes s = record { count = omega (arith, length-replicate s.threads (new
 -- ---- a seat for each
 
 -- the first of the passes that are left, and the others
-pub first-pass : (s : Settings) (place : ℕ) (view : List Pass) → HasPassesFrom s s.threads place view → place < s.threads
-    → (pass : Pass) × (take 1 view ≡ pass ∷ []) × IsPassAt s s.threads place pass × HasPassesFrom s s.threads (place + 1) (drop 1 view)
+pub first-pass : (s : Settings) (place : ℕ) (view : List PassView) → HasPassesFrom s s.threads place view → place < s.threads
+    → (pass : PassView) × (take 1 view ≡ pass ∷ []) × IsPassAt s s.threads place pass × HasPassesFrom s s.threads (place + 1) (drop 1 view)
 first-pass s place [] has less = absurd (let count = has.count in omega arith)
 first-pass s place (pass ∷ view) has less =
     (pass, refl, has.each.0, record { count = omega (arith, has.count); each = has.each.1 })
 
 -- the last seat has one pass
-pub last-pass : (s : Settings) (place : ℕ) (view : List Pass) → HasPassesFrom s s.threads place view → place + 1 ≡ s.threads → take 1 view ≡ view
+pub last-pass : (s : Settings) (place : ℕ) (view : List PassView) → HasPassesFrom s s.threads place view → place + 1 ≡ s.threads → take 1 view ≡ view
 last-pass s place [] has last = refl
 last-pass s place (pass ∷ []) has last = refl
 last-pass s place (pass ∷ other ∷ view) has last = absurd (let count = has.count in omega arith)
 
-pub seat-made : (s : Settings) (table : TableId) (place : ℕ) (view : List Pass) (seat : Seat (Unit {0}) (List Pass)) → HasPassesFrom s s.threads place view
+pub seat-made : (s : Settings) (table : TableId) (place : ℕ) (view : List PassView) (seat : Seat (Unit {0}) (List PassView)) → HasPassesFrom s s.threads place view
     → place < s.threads → seat.table_id ≡ table → seat.me.1 ≡ [] → view_of seat ≡ take 1 view → IsSeatAt s table place seat
 seat-made s table place view seat has less same_table no_slots is =
     let first = first-pass s place view has less in
@@ -186,7 +186,7 @@ seat-made s table place view seat has less same_table no_slots is =
       state = drawn-state s s.threads place first.0 first.2 less;
     }
 
-pub seats-push : (s : Settings) (table : TableId) (seats : List (Seat (Unit {0}) (List Pass))) (seat : Seat (Unit {0}) (List Pass)) → AreSeats s table seats
+pub seats-push : (s : Settings) (table : TableId) (seats : List (Seat (Unit {0}) (List PassView))) (seat : Seat (Unit {0}) (List PassView)) → AreSeats s table seats
     → IsSeatAt s table (length seats) seat → AreSeats s table (seats ++ seat ∷ [])
 seats-push s table seats seat are is =
     record {

@@ -10,7 +10,7 @@ use Rattle.tko_steps.specs.declared.phase.Phase.TheVariants.{Start, Read, AtThre
 use Rattle.tko_steps.specs.declared.table.Decision.{Decision}
 use Rattle.tko_steps.specs.declared.table.Decision.TheVariants.{Goes, Answers}
 use Rattle.tko_steps.specs.Core.{Shared, seen_by, slots_at}
-use Rattle.tko_steps.specs.Steps.{state_after}
+use Rattle.tko_steps.specs.Steps.{decided_state}
 use Rattle.tko_steps.specs.Table.{action_of, from_start, goes, lost_try, next_of, same_server}
 use Rattle.tko_model.specs.Tracker.{server_at}
 use Rattle.std.proofs.Common.{eqb, ◌+◌}
@@ -21,7 +21,7 @@ use Rattle.tko_model.specs.Groups.{group_of, limit_at}
 
 -- what a decision plans
 abbrev pub Plans : Settings → Call → Decision → Type 0
-Plans s call decision = IsPlanned s (state_after call decision)
+Plans s call decision = IsPlanned s (decided_state call decision)
 
 plans-start : (s : Settings) (call : Call) (now : ServerState) → Plans s call (from_start s call now)
 plans-start s call now =

@@ -26,8 +26,8 @@ use Rattle.tko_steps.specs.Table.{action_of}
 use Rattle.tko_steps.proofs.CoreLemmas.{group-there, own-group}
 use Rattle.tko_steps.proofs.PhaseStepLemmas.{knows_at}
 use Rattle.tko_steps.proofs.RoomLemmas.{CanAct-at, enrolled-le}
-use Rattle.tko_table.specs.declared.pass.Pass.{Pass}
-use Rattle.tko_table.specs.Rule.{IsKept, core_in, health_in, health_place, joined, shared_in, soft_place, states_of}
+use Rattle.tko_table.specs.declared.pass.PassView.{PassView}
+use Rattle.tko_table.specs.Rule.{IsKept, core_in, health_in, health_place, joined_passes, shared_in, soft_place, states_of}
 use Rattle.tko_table.specs.Steps.{IsSoundWord, IsWithinLimit, read_in}
 use Rattle.tko_table.proofs.JoinedLemmas.{one-joined}
 use Rattle.tko_table.proofs.SharedLemmas.{health-get, server-there, set-same, slots-there}
@@ -40,19 +40,19 @@ pub record IsStepOn (s : Settings) (words new_words : List ℕ) (server : ℕ) (
 
 -- ---- what the rule says of the words
 
-pub servers-some : (s : Settings) (words : List ℕ) (views : List (List Pass)) → IsKept s words views → 0 < length (shared_in s words).servers
+pub servers-some : (s : Settings) (words : List ℕ) (views : List (List PassView)) → IsKept s words views → 0 < length (shared_in s words).servers
 servers-some s words views kept = omega (arith, kept.core.core.count, kept.core.core.settings.servers.0)
 
 -- what the step of a call under way needs
-pub can-act : (s : Settings) (words : List ℕ) (views : List (List Pass)) (id : ℕ) (before rest : List Pass) (pass : Pass) (call : Call) (phase : Phase)
+pub can-act : (s : Settings) (words : List ℕ) (views : List (List PassView)) (id : ℕ) (before rest : List PassView) (pass : PassView) (call : Call) (phase : Phase)
     → IsKept s words views → get_elem? views id ≡ some (before ++ pass ∷ rest) → pass.state ≡ InCall call phase
     → CanAct s (shared_in s words) call.server (action_of call.number phase)
 can-act s words views id before rest pass call phase kept there stands =
     let one = one-joined views id before rest pass there in
-    let passes = joined views in
-    let inside : one.place < length (states_of passes) = omega (arith, one.inside, length-map passes (λ (at : Pass). at.state)) in
+    let passes = joined_passes views in
+    let inside : one.place < length (states_of passes) = omega (arith, one.inside, length-map passes (λ (at : PassView). at.state)) in
     let stands_in : thread_at (core_in s words passes) one.place ≡ InCall call phase =
-    get_or-map (λ (at : Pass). at.state) passes one.place pass NotEnrolled one.inside ∙ ap (λ (at : Pass). at.state) (one.at pass) ∙ stands in
+    get_or-map (λ (at : PassView). at.state) passes one.place pass NotEnrolled one.inside ∙ ap (λ (at : PassView). at.state) (one.at pass) ∙ stands in
     CanAct-at (core_in s words passes) one.place call kept.core.core inside phase stands_in
 
 -- what was found marked by its own thread still stands
@@ -87,16 +87,16 @@ found-own s call now (Loosened before new answer) found mark knows is marked =
     let same : before ≡ found = cc in knows.2 ∙ same
 found-own s call now (Emptied answer) found mark knows is marked = cc
 
-pub own-stands : (s : Settings) (words : List ℕ) (views : List (List Pass)) (id : ℕ) (before rest : List Pass) (pass : Pass) (call : Call) (phase : Phase)
+pub own-stands : (s : Settings) (words : List ℕ) (views : List (List PassView)) (id : ℕ) (before rest : List PassView) (pass : PassView) (call : Call) (phase : Phase)
     (found : ServerState) (mark : Mark) → IsKept s words views → get_elem? views id ≡ some (before ++ pass ∷ rest) → pass.state ≡ InCall call phase
     → action_of call.number phase ≡ action.Exchange found mark → is_marked_state found.mark ≡ true
     → server_in (get_or words (health_place call.server) 0) ≡ found
 own-stands s words views id before rest pass call phase found mark kept there stands is marked =
     let one = one-joined views id before rest pass there in
-    let passes = joined views in
-    let inside : one.place < length (states_of passes) = omega (arith, one.inside, length-map passes (λ (at : Pass). at.state)) in
+    let passes = joined_passes views in
+    let inside : one.place < length (states_of passes) = omega (arith, one.inside, length-map passes (λ (at : PassView). at.state)) in
     let stands_in : thread_at (core_in s words passes) one.place ≡ InCall call phase =
-    get_or-map (λ (at : Pass). at.state) passes one.place pass NotEnrolled one.inside ∙ ap (λ (at : Pass). at.state) (one.at pass) ∙ stands in
+    get_or-map (λ (at : PassView). at.state) passes one.place pass NotEnrolled one.inside ∙ ap (λ (at : PassView). at.state) (one.at pass) ∙ stands in
     let knows = knows_at (core_in s words passes) one.place call kept.core.core inside phase stands_in in
     sym (server-there s words call.server knows.0)
     ∙ found-own s call (server_at (shared_in s words).servers call.server) phase found mark knows.2 is marked
@@ -107,7 +107,7 @@ allowed-mark s enrolled (Up count) stamp fit le drawn = fit.0
 allowed-mark s enrolled (Soft owner) stamp fit le drawn = omega (arith, drawn owner refl, le)
 allowed-mark s enrolled (Hard owner) stamp fit le drawn = omega (arith, drawn owner refl, le)
 
-pub all-sound : (s : Settings) (words : List ℕ) (views : List (List Pass)) → IsKept s words views → (server : ℕ)
+pub all-sound : (s : Settings) (words : List ℕ) (views : List (List PassView)) → IsKept s words views → (server : ℕ)
     → server < length (shared_in s words).servers → IsSoundWord s (get_or words (health_place server) 0)
 all-sound s words views kept server inside =
     let core = kept.core.core in
@@ -120,21 +120,21 @@ all-sound s words views kept server inside =
     record {
       valid = subst IsWord (sym (health-get s words server in_health)) (kept.core.valid server 0 in_health);
       allowed = subst Q there (allowed-mark s (shared_in s words).enrolled (server_at (shared_in s words).servers server).mark
-          (server_at (shared_in s words).servers server).stamp fit (enrolled-le (core_in s words (joined views)) core) (λ number owned. core.owners server number owned));
+          (server_at (shared_in s words).servers server).stamp fit (enrolled-le (core_in s words (joined_passes views)) core) (λ number owned. core.owners server number owned));
       fit = subst P there fit;
     }
 
 -- the soft word of the group of a server is there
-pub slots-inside : (s : Settings) (words : List ℕ) (views : List (List Pass)) (server : ℕ) → IsKept s words views
+pub slots-inside : (s : Settings) (words : List ℕ) (views : List (List PassView)) (server : ℕ) → IsKept s words views
     → group_of s server < length (shared_in s words).slots
-slots-inside s words views server kept = group-there (core_in s words (joined views)) server kept.core.core
+slots-inside s words views server kept = group-there (core_in s words (joined_passes views)) server kept.core.core
 
-pub slots-within : (s : Settings) (words : List ℕ) (views : List (List Pass)) (server : ℕ) → IsKept s words views
+pub slots-within : (s : Settings) (words : List ℕ) (views : List (List PassView)) (server : ℕ) → IsKept s words views
     → IsWithinLimit s server (slots_in (get_or words (soft_place s (group_of s server)) 0))
 slots-within s words views server kept =
     let there = slots-there s words (group_of s server) (slots-inside s words views server kept) in
     let P : Slots → Type 0 = λ it. IsWithinLimit s server it in
-    subst P there (record { room = (own-group (core_in s words (joined views)) server kept.core.core).room })
+    subst P there (record { room = (own-group (core_in s words (joined_passes views)) server kept.core.core).room })
 
 -- ---- looks
 

@@ -8,7 +8,7 @@ use Rattle.tko_steps.specs.declared.phase.Call.{Call}
 use Rattle.tko_steps.specs.declared.phase.Phase.{Phase}
 use Rattle.tko_steps.specs.declared.phase.Phase.TheVariants.{Start, Read, AtThreshold, Limit, Reserving, Holding, Firming, Losing, Loosening, Loosened, Emptied}
 use Rattle.tko_table.specs.declared.pass.Change.{Change}
-use Rattle.tko_table.specs.declared.pass.Pass.{Pass}
+use Rattle.tko_table.specs.declared.pass.PassView.{PassView}
 use Rattle.tko_table.specs.History.{Begins, change_by, changes_in, made_by}
 use Rattle.tko_table.specs.Passes.{StandsIn, changes_by, pending}
 use Rattle.tko_table.proofs.AddedChangeLemmas.{made_by-append, made_by-other, made_by-own}
@@ -68,7 +68,7 @@ changes-drawn enrolled call phase won less =
 -- ---- a pass and the history
 
 -- other threads' changes add nothing to a thread's own
-pub told-other : (drew : Option ℕ) (history changes : List Change) (pass : Pass) → ((number : ℕ) → drew ≡ Some number → made_by number changes ≡ [])
+pub told-other : (drew : Option ℕ) (history changes : List Change) (pass : PassView) → ((number : ℕ) → drew ≡ Some number → made_by number changes ≡ [])
     → StandsIn drew history pass → StandsIn drew (history ++ changes) pass
 told-other None history changes pass none told = told
 told-other (Some number) history changes pass none told =
@@ -93,7 +93,7 @@ no-more one [] e = refl
 no-more one (change ∷ other) e = absurd (omega (arith, e, length-append one (change ∷ other)))
 
 -- a pass that sees more of the history tells the same
-pub told-seen : (drew : Option ℕ) (history seen : List Change) (pass new : Pass) → new.state ≡ pass.state → new.mine ≡ pass.mine → new.seen ≡ seen
+pub told-seen : (drew : Option ℕ) (history seen : List Change) (pass new : PassView) → new.state ≡ pass.state → new.mine ≡ pass.mine → new.seen ≡ seen
     → Begins pass.seen history → Begins seen history → length pass.seen ≤ length seen → StandsIn drew history pass → StandsIn drew history new
 told-seen None history seen pass new state mine sees begins sees_all le told = mine ∙ told
 told-seen (Some number) history seen pass new state mine sees begins sees_all le told =

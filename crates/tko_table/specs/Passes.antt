@@ -16,16 +16,16 @@ use Rattle.tko_steps.specs.declared.table.Action.TheVariants.{Exchange}
 use Rattle.tko_steps.specs.declared.table.Decision.{Decision}
 use Rattle.tko_steps.specs.declared.table.Decision.TheVariants.{Goes, Answers}
 use Rattle.tko_steps.specs.declared.table.Observed.{Observed}
-use Rattle.tko_steps.specs.Core.{is_enrolled, number_of}
-use Rattle.tko_steps.specs.Steps.{is_done, state_after}
+use Rattle.tko_steps.specs.Core.{drawn_number, is_enrolled}
+use Rattle.tko_steps.specs.Steps.{decided_state, is_done}
 use Rattle.tko_steps.specs.Table.{action_of, next_of}
 use Rattle.tko_table.specs.declared.pass.Change.{Change}
 use Rattle.tko_table.specs.declared.pass.Made.{Made}
-use Rattle.tko_table.specs.declared.pass.Pass.{Pass}
+use Rattle.tko_table.specs.declared.pass.PassView.{PassView}
 use Rattle.tko_table.specs.History.{change_by, changes_in, made_by, made_with}
 
 -- a pass that took no step, and the passes of all threads before their first
-abbrev pub new_pass : Settings → Pass
+abbrev pub new_pass : Settings → PassView
 new_pass s =
     record {
       state = NotEnrolled;
@@ -37,7 +37,7 @@ new_pass s =
       settings = s;
     }
 
-abbrev pub new_passes : Settings → List Pass
+abbrev pub new_passes : Settings → List PassView
 new_passes s = replicate s.threads (new_pass s)
 
 -- whether the thread with this number, if it has one, made the mark
@@ -63,10 +63,10 @@ owned_with owned server (Up count) = without server owned
 owned_with owned server mark = server ∷ without server owned
 
 -- the owned servers after a step; only an exchange that is won changes them
-abbrev pub owned_after : List ℕ → ℕ → Action → Bool → List ℕ
-owned_after owned server (Exchange found mark) won =
+abbrev pub owned_after_action : List ℕ → ℕ → Action → Bool → List ℕ
+owned_after_action owned server (Exchange found mark) won =
     if won then owned_with owned server mark else owned
-owned_after owned server action won = owned
+owned_after_action owned server action won = owned
 
 -- the change of a mark that a call at this phase makes, if its exchange is won
 abbrev pub change_at : Call → Phase → List Change
@@ -102,14 +102,14 @@ mine_after mine call (Goes lost phase) at = mine
 mine_after mine call (Answers answer) at = mine ++ made_with call answer at ∷ []
 
 -- the pass once its call, at this phase, took the step that read this, and found this history
-abbrev pub after_step : Pass → Call → Phase → Observed → List Change → Pass
-after_step pass call phase read history =
+abbrev pub pass_after_step : PassView → Call → Phase → Observed → List Change → PassView
+pass_after_step pass call phase read history =
     let decision = next_of pass.settings call phase read in
     let at = decided_after phase pass.decided_at (length history) in
     record {
-      state = state_after call decision;
+      state = decided_state call decision;
       owned =
-          owned_after pass.owned call.server (action_of call.number phase) (is_done read);
+          owned_after_action pass.owned call.server (action_of call.number phase) (is_done read);
       steps = pass.steps + 1;
       seen = history ++ changes_by call phase (is_done read);
       mine = mine_after pass.mine call decision at;
@@ -120,23 +120,23 @@ after_step pass call phase read history =
 -- the changes by a thread of this number are those of its answered calls, in their order, and the
 -- one that its call under way has made; and it has seen them. A thread without a number made no
 -- call
-abbrev pub StandsIn : Option ℕ → List Change → Pass → Type 0
+abbrev pub StandsIn : Option ℕ → List Change → PassView → Type 0
 StandsIn None history pass = pass.mine ≡ []
 StandsIn (Some number) history pass =
     (made_by number history ≡ changes_in number pass.mine ++ pending pass.state)
     × (made_by number pass.seen ≡ made_by number history)
 
-abbrev pub HasItsChanges : List Change → Pass → Type 0
-HasItsChanges history pass = StandsIn (number_of pass.state) history pass
+abbrev pub HasItsChanges : List Change → PassView → Type 0
+HasItsChanges history pass = StandsIn (drawn_number pass.state) history pass
 
 -- the pass owns exactly the servers whose marks name its number
-abbrev pub OwnsItsMarks : List ServerState → Pass → Type 0
-OwnsItsMarks servers pass =
+abbrev pub PassOwnsItsMarks : List ServerState → PassView → Type 0
+PassOwnsItsMarks servers pass =
     (server : ℕ) →
-    owns pass.owned server ≡ is_marked_by (number_of pass.state) (server_at servers server).mark
+    owns pass.owned server ≡ is_marked_by (drawn_number pass.state) (server_at servers server).mark
 
 -- the pass once it drew this number, and saw this history
-abbrev pub enrolled_pass : Pass → ℕ → List Change → Pass
+abbrev pub enrolled_pass : PassView → ℕ → List Change → PassView
 enrolled_pass pass number history =
     record {
       state = Idle number;
@@ -149,7 +149,7 @@ enrolled_pass pass number history =
     }
 
 -- the passes once the first of them that isn't enrolled drew this number
-abbrev pub enrol_first : List Pass → ℕ → List Change → List Pass
+abbrev pub enrol_first : List PassView → ℕ → List Change → List PassView
 enrol_first [] number history = []
 enrol_first (pass ∷ passes) number history =
     if is_enrolled pass.state
@@ -157,13 +157,13 @@ enrol_first (pass ∷ passes) number history =
     else enrolled_pass pass number history ∷ passes
 
 -- how many of these passes are enrolled
-abbrev pub count_enrolled : List Pass → ℕ
+abbrev pub count_enrolled : List PassView → ℕ
 count_enrolled [] = 0
 count_enrolled (pass ∷ passes) =
     if is_enrolled pass.state then count_enrolled passes + 1 else count_enrolled passes
 
 -- the longest history that one of these passes has seen
-abbrev pub longest_seen : List Pass → List Change
+abbrev pub longest_seen : List PassView → List Change
 longest_seen [] = []
 longest_seen (pass ∷ passes) =
     if nat_lt (length (longest_seen passes)) (length pass.seen)
@@ -171,7 +171,7 @@ longest_seen (pass ∷ passes) =
     else longest_seen passes
 
 -- the pass once it has seen this history
-abbrev pub with_seen : List Change → Pass → Pass
+abbrev pub with_seen : List Change → PassView → PassView
 with_seen history pass =
     record {
       state = pass.state;
@@ -184,5 +184,5 @@ with_seen history pass =
     }
 
 -- joined passes: each has then seen what any of them had seen
-abbrev pub raised : List Pass → List Pass
-raised passes = map (with_seen (longest_seen passes)) passes
+abbrev pub passes_raised : List PassView → List PassView
+passes_raised passes = map (with_seen (longest_seen passes)) passes

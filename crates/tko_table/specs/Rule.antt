@@ -16,9 +16,9 @@ use Rattle.tko_steps.specs.declared.phase.ThreadState.TheVariants.{InCall}
 use Rattle.tko_steps.specs.Core.{CoreState, Shared, opened_words, slots_in}
 use Rattle.tko_steps.specs.Invariant.{IsCore}
 use Rattle.tko_table.specs.declared.pass.Change.{Change}
-use Rattle.tko_table.specs.declared.pass.Pass.{Pass}
+use Rattle.tko_table.specs.declared.pass.PassView.{PassView}
 use Rattle.tko_table.specs.History.{Begins, Replays, is_change}
-use Rattle.tko_table.specs.Passes.{OwnsItsMarks, HasItsChanges}
+use Rattle.tko_table.specs.Passes.{PassOwnsItsMarks, HasItsChanges}
 
 -- the words in their order: the enrolment word, the health word of each server, the soft word of
 -- each group
@@ -52,23 +52,23 @@ pub record IsOpened (s : Settings) (words : List ℕ) : Type 0 where
   pub shared : shared_in s words ≡ opened_words s
 
 -- the passes of all seats
-abbrev pub joined : List (List Pass) → List Pass
-joined [] = []
-joined (view ∷ views) = view ++ joined views
+abbrev pub joined_passes : List (List PassView) → List PassView
+joined_passes [] = []
+joined_passes (view ∷ views) = view ++ joined_passes views
 
-abbrev pub states_of : List Pass → List ThreadState
+abbrev pub states_of : List PassView → List ThreadState
 states_of passes = map (λ pass. pass.state) passes
 
 -- the words and the passes are this state of the core
-abbrev pub core_in : Settings → List ℕ → List Pass → CoreState
+abbrev pub core_in : Settings → List ℕ → List PassView → CoreState
 core_in s words passes =
     record { settings = s; shared = shared_in s words; threads = states_of passes }
 
 -- the words and the passes are a state of the core that meets the core's invariant
-pub record IsCoreHalf (s : Settings) (words : List ℕ) (passes : List Pass) : Type 0 where
+pub record IsCoreHalf (s : Settings) (words : List ℕ) (passes : List PassView) : Type 0 where
   pub valid : All IsWord (health_in s words)
   pub core : IsCore (core_in s words passes)
-  pub owned : All (OwnsItsMarks (shared_in s words).servers) passes
+  pub owned : All (PassOwnsItsMarks (shared_in s words).servers) passes
   pub settings : All (λ pass. pass.settings ≡ s) passes
 
 -- on the server as it was found, the operation puts this mark there, whatever room there is
@@ -103,7 +103,7 @@ IsPlanned s state = Unit {0}
 -- the servers are the replay of the history, and each pass has seen a beginning of it; each change
 -- is by a thread that drew a number, whose pass tells its own
 pub record IsToldHalf
-    (s : Settings) (shared : Shared) (passes : List Pass) (history : List Change) : Type 0
+    (s : Settings) (shared : Shared) (passes : List PassView) (history : List Change) : Type 0
   where
     pub replays : Replays s history shared.servers
     pub seen : All (λ pass. Begins pass.seen history) passes
@@ -112,7 +112,7 @@ pub record IsToldHalf
     pub mine : All (HasItsChanges history) passes
 
 -- the rule, in two halves that share what the words hold
-pub record IsKept (s : Settings) (words : List ℕ) (views : List (List Pass)) : Type 0 where
-  pub core : IsCoreHalf s words (joined views)
+pub record IsKept (s : Settings) (words : List ℕ) (views : List (List PassView)) : Type 0 where
+  pub core : IsCoreHalf s words (joined_passes views)
   pub history : List Change
-  pub told : IsToldHalf s (shared_in s words) (joined views) history
+  pub told : IsToldHalf s (shared_in s words) (joined_passes views) history

@@ -26,30 +26,30 @@ use Rattle.tko_steps.specs.declared.step.Word.{Word}
 use Rattle.tko_steps.specs.declared.step.Word.TheVariants as held
 use Rattle.tko_steps.specs.Table.{action_of}
 use Rattle.tko_table.specs.declared.pass.Change.{Change}
-use Rattle.tko_table.specs.declared.pass.Pass.{Pass}
+use Rattle.tko_table.specs.declared.pass.PassView.{PassView}
 use Rattle.tko_table.specs.History.{Begins, Replays, made_by}
-use Rattle.tko_table.specs.Passes.{HasItsChanges, after_step, count_enrolled, enrol_first, is_marked_by, owns}
+use Rattle.tko_table.specs.Passes.{HasItsChanges, count_enrolled, enrol_first, is_marked_by, owns, pass_after_step}
 use Rattle.tko_steps.specs.declared.phase.Slots.{Slots}
 use Rattle.tko_steps.specs.Core.{slots_in}
 use Rattle.tko_table.specs.Rule.{health_place}
 
 -- what a seat knows: its passes
-abbrev pub view_of : Seat (Unit {0}) (List Pass) → List Pass
+abbrev pub view_of : Seat (Unit {0}) (List PassView) → List PassView
 view_of seat = seat.me.0
 
 -- a step leaves a seat in its table, with no slot more
-abbrev pub IsSameSeat : Seat (Unit {0}) (List Pass) → Seat (Unit {0}) (List Pass) → Type 0
+abbrev pub IsSameSeat : Seat (Unit {0}) (List PassView) → Seat (Unit {0}) (List PassView) → Type 0
 IsSameSeat old new = (new.table_id ≡ old.table_id) × (new.me.1 ≡ old.me.1)
 
 -- what the number in the word of a step holds
-abbrev pub held_by : Action → ℕ → Word
-held_by LookAtServer number = held.Server (server_in number)
-held_by (Exchange found mark) number = held.Server (server_in number)
-held_by action number = held.Soft (slots_in number)
+abbrev pub word_held_by : Action → ℕ → Word
+word_held_by LookAtServer number = held.Server (server_in number)
+word_held_by (Exchange found mark) number = held.Server (server_in number)
+word_held_by action number = held.Soft (slots_in number)
 
 -- what a step reads in the number that it found in its word
 abbrev pub read_in : Action → ℕ → Observed
-read_in action number = seen_in action (held_by action number)
+read_in action number = seen_in action (word_held_by action number)
 
 -- this state of the core, under these settings, meets the core's invariant, and the call of one of
 -- its threads is at this phase
@@ -64,53 +64,52 @@ pub record IsFound (s : Settings) (call : Call) (phase : Phase) (core : CoreStat
 -- servers are the replay of the history, which begins with what the pass has seen; it reads and
 -- leaves what the core's step does; the pass has then seen the whole history, a change that the
 -- step makes goes last in it, and an answer goes last in the thread's calls
-pub record Takes (before : Pass) (call : Call) (phase : Phase) (it : Observed) (after : Pass)
-    : Type 0
-  where
-    -- what the words hold, and the states of all threads
-    pub core : CoreState
-    pub is_found : IsFound before.settings call phase core
-    -- the changes since the pass looked last, which are other threads'
-    pub between : List Change
-    pub others : made_by call.number between ≡ []
-    pub drawn : All (λ change. change.number < before.settings.threads) between
-    pub found : Replays before.settings (before.seen ++ between) core.shared.servers
-    pub reads : it ≡ seen_by before.settings core.shared call.server (action_of call.number phase)
-    pub left :
-        Replays
-        before.settings
-        after.seen
-        (shared_after before.settings core.shared call.server (action_of call.number phase)).servers
-    -- the servers that its thread owns are those whose marks name it
-    pub own : (server : ℕ) →
-        owns before.owned server
-        ≡ is_marked_by (Some call.number) (server_at core.shared.servers server).mark
-    -- the servers that it then owns are those that the core's step leaves it
-    pub gained : (server : ℕ) →
-        owns after.owned server
-        ≡ owned_after
-        before.settings
-        call
-        phase
-        (word_at core.shared (place_of before.settings call.server (action_of call.number phase)))
-        (owns before.owned)
-        server
-    pub knows : after ≡ after_step before call phase it (before.seen ++ between)
+pub record Takes (before : PassView) (call : Call) (phase : Phase) (it : Observed)
+    (after : PassView) : Type 0 where
+  -- what the words hold, and the states of all threads
+  pub core : CoreState
+  pub is_found : IsFound before.settings call phase core
+  -- the changes since the pass looked last, which are other threads'
+  pub between : List Change
+  pub others : made_by call.number between ≡ []
+  pub drawn : All (λ change. change.number < before.settings.threads) between
+  pub found : Replays before.settings (before.seen ++ between) core.shared.servers
+  pub reads : it ≡ seen_by before.settings core.shared call.server (action_of call.number phase)
+  pub left :
+      Replays
+      before.settings
+      after.seen
+      (shared_after before.settings core.shared call.server (action_of call.number phase)).servers
+  -- the servers that its thread owns are those whose marks name it
+  pub own : (server : ℕ) →
+      owns before.owned server
+      ≡ is_marked_by (Some call.number) (server_at core.shared.servers server).mark
+  -- the servers that it then owns are those that the core's step leaves it
+  pub gained : (server : ℕ) →
+      owns after.owned server
+      ≡ owned_after
+      before.settings
+      call
+      phase
+      (word_at core.shared (place_of before.settings call.server (action_of call.number phase)))
+      (owns before.owned)
+      server
+  pub knows : after ≡ pass_after_step before call phase it (before.seen ++ between)
 
 -- the seat's one pass took that step, which read this
 pub record Took
-    (before : List Pass) (call : Call) (phase : Phase) (it : Observed) (after : List Pass)
+    (before : List PassView) (call : Call) (phase : Phase) (it : Observed) (after : List PassView)
     : Type 0 where
-  pub old : Pass
-  pub new : Pass
+  pub old : PassView
+  pub new : PassView
   pub was : before ≡ old ∷ []
   pub is : after ≡ new ∷ []
   pub takes : Takes old call phase it new
 
 -- what a step on a word tells the pass of a call: it took the step of its phase
-abbrev pub Plays : Me (Unit {0}) (List Pass) → ℕ → Me (Unit {0}) (List Pass) → Type 0
+abbrev pub Plays : Me (Unit {0}) (List PassView) → ℕ → Me (Unit {0}) (List PassView) → Type 0
 Plays old found new =
-    (pass : Pass) (call : Call) (phase : Phase) →
+    (pass : PassView) (call : Call) (phase : Phase) →
     old.0 ≡ pass ∷ [] →
     pass.state ≡ InCall call phase →
     Took old.0 call phase (read_in (action_of call.number phase) found) new.0
@@ -129,24 +128,24 @@ pub record IsWithinLimit (s : Settings) (server : ℕ) (slots : Slots) : Type 0 
 -- what a load of a server's word tells: the call that is under way, or that begins with this
 -- operation on this server, took the step of its phase
 pub record Looked
-    (op : Op) (word : ℕ) (old : Me (Unit {0}) (List Pass)) (found : ℕ)
-    (new : Me (Unit {0}) (List Pass)) : Type 0
+    (op : Op) (word : ℕ) (old : Me (Unit {0}) (List PassView)) (found : ℕ)
+    (new : Me (Unit {0}) (List PassView)) : Type 0
   where
-    pub plays : (pass : Pass) (call : Call) (phase : Phase) →
+    pub plays : (pass : PassView) (call : Call) (phase : Phase) →
         old.0 ≡ pass ∷ [] →
         word ≡ health_place call.server →
         in_call pass.state op call.server ≡ InCall call phase →
         Took old.0 call phase (read_in (action_of call.number phase) found) new.0
-    pub sound : (pass : Pass) → old.0 ≡ pass ∷ [] → IsSoundWord pass.settings found
+    pub sound : (pass : PassView) → old.0 ≡ pass ∷ [] → IsSoundWord pass.settings found
 
 -- what an exchange of a server's word tells; a mark that its own call expects still stands
 pub record Exchanged
-    (word : ℕ) (old : Me (Unit {0}) (List Pass)) (found : ℕ)
-    (new : Me (Unit {0}) (List Pass)) : Type 0
+    (word : ℕ) (old : Me (Unit {0}) (List PassView)) (found : ℕ)
+    (new : Me (Unit {0}) (List PassView)) : Type 0
   where
     pub plays : Plays old found new
     pub valid : IsWord found
-    pub stands : (pass : Pass) (call : Call) (phase : Phase) →
+    pub stands : (pass : PassView) (call : Call) (phase : Phase) →
         (expected : ServerState) (mark : Mark) →
         old.0 ≡ pass ∷ [] →
         word ≡ health_place call.server →
@@ -157,25 +156,25 @@ pub record Exchanged
 
 -- what a load of a soft word tells
 pub record LookedAtSlots
-    (old : Me (Unit {0}) (List Pass)) (found : ℕ) (new : Me (Unit {0}) (List Pass)) : Type 0
+    (old : Me (Unit {0}) (List PassView)) (found : ℕ) (new : Me (Unit {0}) (List PassView)) : Type 0
   where
     pub plays : Plays old found new
-    pub within : (pass : Pass) (call : Call) (phase : Phase) →
+    pub within : (pass : PassView) (call : Call) (phase : Phase) →
         old.0 ≡ pass ∷ [] →
         pass.state ≡ InCall call phase →
         IsWithinLimit pass.settings call.server (slots_in found)
 
 -- the seat's one pass may take the step of this call at this phase: the call is under way
-pub record IsAt (view : List Pass) (call : Call) (phase : Phase) : Type 0 where
-  pub pass : Pass
+pub record IsAt (view : List PassView) (call : Call) (phase : Phase) : Type 0 where
+  pub pass : PassView
   pub alone : view ≡ pass ∷ []
   pub stands : pass.state ≡ InCall call phase
 
 -- the same under these settings, or the call begins here with this operation
-pub record CanLook (s : Settings) (op : Op) (view : List Pass) (call : Call) (phase : Phase)
+pub record CanLook (s : Settings) (op : Op) (view : List PassView) (call : Call) (phase : Phase)
     : Type 0
   where
-    pub pass : Pass
+    pub pass : PassView
     pub alone : view ≡ pass ∷ []
     pub stands : in_call pass.state op call.server ≡ InCall call phase
     pub settings : pass.settings ≡ s
@@ -227,7 +226,7 @@ pub record EnrolsIn (core : CoreState) (drawn : ℕ) : Type 0 where
 
 -- the first of these passes that isn't enrolled drew this number; where they are all passes that
 -- there are, it is how many of them were enrolled
-pub record Enrols (before : List Pass) (number : ℕ) (after : List Pass) : Type 0 where
+pub record DrawsNumber (before : List PassView) (number : ℕ) (after : List PassView) : Type 0 where
   pub history : List Change
   pub begins : All (λ pass. Begins pass.seen history) before
   pub drew : after ≡ enrol_first before number history
@@ -241,10 +240,10 @@ pub record Enrols (before : List Pass) (number : ℕ) (after : List Pass) : Type
   -- that were drawn stands in the history
   pub made : All (HasItsChanges history) before
   pub drawn : All (λ change. change.number < number) history
-  pub all : (pass : Pass) (rest : List Pass) →
+  pub all : (pass : PassView) (rest : List PassView) →
       before ≡ pass ∷ rest →
       length before ≡ pass.settings.threads → number ≡ count_enrolled before
 
 -- what an enrolment tells
-abbrev pub Enrolled : Me (Unit {0}) (List Pass) → ℕ → Me (Unit {0}) (List Pass) → Type 0
-Enrolled old found new = Enrols old.0 found new.0
+abbrev pub Enrolled : Me (Unit {0}) (List PassView) → ℕ → Me (Unit {0}) (List PassView) → Type 0
+Enrolled old found new = DrawsNumber old.0 found new.0

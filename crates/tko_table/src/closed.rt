@@ -5,7 +5,7 @@ ghost use Rattle.tko_model.specs.Groups.{groups};
 ghost use Rattle.tko_model.specs.Ranges.{IsWithinRanges};
 ghost use Rattle.tko_model.specs.Tracker.{server_at};
 ghost use Rattle.tko_steps.specs.Core.{slots_at};
-ghost use Rattle.tko_table.specs.Closing.{IsDone, IsLeft};
+ghost use Rattle.tko_table.specs.Closing.{IsDone, IsLeftByThreads};
 ghost use Rattle.tko_table.specs.Steps.{view_of};
 
 use crate::values::{place_of, soft_place_in};
@@ -31,10 +31,10 @@ impl Model for ClosedWords {
     ghost use Rattle.std.specs.Prelude.{All};
     ghost use Rattle.std.specs.Mem.Slots.{slots_items};
     ghost use Rattle.tko_word.specs.Words.{IsWord};
-    ghost use Rattle.tko_table.specs.Closing.{Left};
+    ghost use Rattle.tko_table.specs.Closing.{ClosedContents};
     ghost use Rattle.tko_table.specs.Rule.{health_in, shared_in};
 
-    ghost Value = { Left };
+    ghost Value = { ClosedContents };
 
     ghost view = { λ w. record {
       settings = w.settings;
@@ -80,7 +80,7 @@ impl Words {
         requires all { length (view_of seat) ≡ self.settings.threads }
         requires done { All IsDone (view_of seat) }
         ensures settings { result.settings ≡ self.settings }
-        ensures left { IsLeft self.settings (view_of seat) result.shared }
+        ensures left { IsLeftByThreads self.settings (view_of seat) result.shared }
     {
         let Words { table, settings } = self;
         ClosedWords {

@@ -23,8 +23,8 @@ mod values;
 mod words;
 
 pub use closed::ClosedWords;
-pub use pass::{Change, Made, Pass, Seat, View};
-pub use rule::Kept;
+pub use pass::{Change, Made, PassView, Seat, View};
+pub use rule::WordsRule;
 pub use words::Words;
 
 #[cfg(test)]

@@ -23,7 +23,7 @@ pub struct Made {
 }
 
 /// What one thread knows.
-pub struct Pass {
+pub struct PassView {
     pub state: ThreadState,
     /// The servers whose marks name the thread.
     pub owned: LinkedList<usize>,
@@ -39,7 +39,7 @@ pub struct Pass {
 }
 
 /// What a seat knows: one pass, or those of several threads.
-pub type View = LinkedList<Pass>;
+pub type View = LinkedList<PassView>;
 
 /// A token of no bytes with which a thread steps.
 pub type Seat = atomic_table::Seat<(), View>;

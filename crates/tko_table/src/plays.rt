@@ -120,9 +120,9 @@ pub(crate) struct BothPasses;
 
 impl Join<View> for BothPasses {
     ghost use Rattle.std.specs.Prelude.{◌++◌, []};
-    ghost use Rattle.tko_table.specs.Passes.{raised};
+    ghost use Rattle.tko_table.specs.Passes.{passes_raised};
 
-    ghost both = { λ view other. raised (view ++ other) };
+    ghost both = { λ view other. passes_raised (view ++ other) };
 
     ghost spent = { [] };
 }

@@ -8,11 +8,11 @@ ghost use Rattle.tko_steps.specs.declared.table.Action.TheVariants.{Exchange, Gi
 ghost use Rattle.tko_steps.specs.declared.table.Observed.TheVariants as seen;
 ghost use Rattle.tko_steps.specs.Table.{action_of};
 ghost use Rattle.tko_steps.specs.declared.phase.Phase.TheVariants.{Start};
-ghost use Rattle.tko_steps.specs.declared.step.Kind.TheVariants as kind;
+ghost use Rattle.tko_steps.specs.declared.step.StepKind.TheVariants as kind;
 ghost use Rattle.tko_steps.specs.Steps.{is_marked_state, kind_of_exchange};
-ghost use Rattle.tko_table.specs.Passes.{count_enrolled, raised};
+ghost use Rattle.tko_table.specs.Passes.{count_enrolled, passes_raised};
 ghost use Rattle.tko_table.specs.Rule.{health_place};
-ghost use Rattle.tko_table.specs.Steps.{CanLook, Enrols, IsAt, IsLook, IsSameSeat, IsShift, IsSound, IsWritable, Looked, Took, is_look_at_slots, is_settle, view_of};
+ghost use Rattle.tko_table.specs.Steps.{CanLook, DrawsNumber, IsAt, IsLook, IsSameSeat, IsShift, IsSound, IsWritable, Looked, Took, is_look_at_slots, is_settle, view_of};
 
 use crate::plays::{
     self, BothAsSeen, BothPasses, ChangesSlots, Exchanges, FailsHard, FailsSoftly, FirstPass,
@@ -283,7 +283,7 @@ impl Words {
         requires seat { seat.old.table_id ≡ self.now.table.shared.table_id }
         requires waits { count_enrolled (view_of seat.old) < length (view_of seat.old) }
         ensures seat { IsSameSeat seat.old seat.new }
-        ensures drew { Enrols (view_of seat.old) result (view_of seat.new) }
+        ensures drew { DrawsNumber (view_of seat.old) result (view_of seat.new) }
     {
         let shared = &self.table.shared;
         shared.fetch_add::<plays::Enrols>(seat, ENROLMENT, one_thread()) as u32
@@ -307,7 +307,7 @@ impl Words {
         requires other { other.table_id ≡ self.now.table.shared.table_id }
         requires slots { other.me.1 ≡ [] }
         ensures seat { IsSameSeat seat.old seat.new }
-        ensures both { view_of seat.new ≡ raised (view_of seat.old ++ view_of other) }
+        ensures both { view_of seat.new ≡ passes_raised (view_of seat.old ++ view_of other) }
     {
         self.table.shared.join_seat::<BothPasses>(seat, other);
     }

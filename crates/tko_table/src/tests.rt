@@ -16,7 +16,7 @@ use crate::{Seat, Words};
 use std::process::Abort;
 use std::test::Fail;
 use tko_model::{Mark, OneGroup, Op, OpenFault, Reply, ServerState, SettingsFault};
-use tko_steps::{Action, Call, Decision, Kind, Observed, Phase, Slots, ThreadState, next};
+use tko_steps::{Action, Call, Decision, Observed, Phase, Slots, StepKind, ThreadState, next};
 
 const SETTINGS: OneGroup = OneGroup {
     servers: 1,
@@ -61,9 +61,9 @@ fn exchange(
 {
     assert!(rt; is_writable(found, mark));
     match (Action::Exchange { found, mark }).kind() {
-        Kind::Count => words.count(seat, call, phase, found, mark),
-        Kind::Mark => words.mark(seat, call, phase, found, mark),
-        Kind::Own => words.own(seat, call, phase, found, mark),
+        StepKind::Count => words.count(seat, call, phase, found, mark),
+        StepKind::Mark => words.mark(seat, call, phase, found, mark),
+        StepKind::Own => words.own(seat, call, phase, found, mark),
         _ => panic!(rt; "no exchange"),
     }
 }

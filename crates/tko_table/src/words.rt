@@ -7,7 +7,7 @@ ghost use Rattle.tko_table.specs.Passes.{new_passes};
 ghost use Rattle.tko_table.specs.Rule.{IsOpened};
 ghost use Rattle.tko_table.specs.Steps.{IsSameSeat, view_of};
 
-use crate::rule::Kept;
+use crate::rule::WordsRule;
 use crate::values::count_words;
 use crate::{Seat, View};
 use atomic_table::Table;
@@ -19,7 +19,7 @@ use tko_word::{pack, pack_soft};
 /// order.
 #[derive(Drop)]
 pub struct Words {
-    pub table: Table<(), View, Settings, Kept, Global>,
+    pub table: Table<(), View, Settings, WordsRule, Global>,
     pub settings: Settings,
     ghost key: { table.shared.key ≡ settings },
     ghost ranges: { IsWithinRanges settings },

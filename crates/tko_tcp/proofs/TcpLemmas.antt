@@ -11,9 +11,9 @@ use Rattle.tko_tcp.specs.declared.tcp_server.TcpServer.{TcpServer}
 use Rattle.tko_links.specs.declared.wire.WireFault.{WireFault}
 use Rattle.tko_tcp.specs.TcpWires.{IsTcpRecord, IsTcpStep, TcpState, address_of}
 use Rattle.tko_tcp.specs.TcpWires.{connected_after_all, is_open, least_failures}
-use Rattle.tko_tcp.specs.TcpWires.{limit_of, most_failures}
-use Rattle.tko_links.specs.Wires.{WireItem, connect_item, faults_in, is_ok, read_item}
-use Rattle.tko_links.specs.Wires.{refusals_in, write_item}
+use Rattle.tko_tcp.specs.TcpWires.{most_failures, time_limit_of}
+use Rattle.tko_links.specs.Wires.{WireItem, connect_item, is_ok, read_item, wire_faults_in}
+use Rattle.tko_links.specs.Wires.{wire_refusals_in, write_item}
 
 -- what is seen of each server, after a call that changed one of them
 pub set_seen : {A : Type 0} (f : TcpServer → A) (servers : List TcpServer) (seen : List A)
@@ -35,21 +35,21 @@ keep_seen f servers seen place before after was at same =
 pub limit_there : (servers : List TcpServer) (connected : List Bool) (place : ℕ)
     (server : TcpServer)
     (limit : Option ℕ) → map is_open servers ≡ connected → place < length connected
-    → limit_of server ≡ limit
-    → get_or (map limit_of (slice_set servers place server)) place None ≡ limit
+    → time_limit_of server ≡ limit
+    → get_or (map time_limit_of (slice_set servers place server)) place None ≡ limit
 limit_there servers connected place server limit was within is =
     let same : length connected ≡ length (map is_open servers) = ap length (sym was) in
-    ap (λ them. get_or them place None) (map-set limit_of servers place server)
-    ∙ get_or-set_same (map limit_of servers) place (limit_of server) None
-    (omega (arith, within, same, length-map servers is_open, length-map servers limit_of))
+    ap (λ them. get_or them place None) (map-set time_limit_of servers place server)
+    ∙ get_or-set_same (map time_limit_of servers) place (time_limit_of server) None
+    (omega (arith, within, same, length-map servers is_open, length-map servers time_limit_of))
     ∙ is
 
 -- the same where a connection was made
 pub limit_made : (servers : List TcpServer) (connected : List Bool) (place : ℕ) (server : TcpServer)
     (limit now : ℕ) (result : Result Unit WireFault) → map is_open servers ≡ connected
     → place < length connected
-    → OnOk result (limit_of server ≡ Some limit) → limit ≡ now
-    → OnOk result (get_or (map limit_of (slice_set servers place server)) place None ≡ Some now)
+    → OnOk result (time_limit_of server ≡ Some limit) → limit ≡ now
+    → OnOk result (get_or (map time_limit_of (slice_set servers place server)) place None ≡ Some now)
 limit_made servers connected place server limit now (Ok done) was within is same =
     limit_there servers connected place server (Some now) was within (is ∙ ap Some same)
 limit_made servers connected place server limit now (Err fault) was within is same = tt
@@ -91,7 +91,7 @@ pub record Stays (old new : TcpState) : Type 0 where
 pub connect_step : (old new : TcpState) (server : ℕ) (result : Result Unit WireFault)
     → Stays old new → OnOk result (get_or new.limits server None ≡ Some old.limit)
     → new.connected ≡ slice_set old.connected server (is_ok result)
-    → new.failures ≡ old.failures + faults_in result
+    → new.failures ≡ old.failures + wire_faults_in result
     → IsTcpStep old (connect_item server result) new
 connect_step old new server (Ok done) stays begun connected failures =
     record {
@@ -114,7 +114,7 @@ connect_step old new server (Err fault) stays begun connected failures =
 
 pub read_step : (old new : TcpState) (server : ℕ) (buffer : List ℕ) (result : Result ℕ WireFault)
     → Stays old new
-    → new.connected ≡ old.connected → new.failures ≡ old.failures + faults_in result
+    → new.connected ≡ old.connected → new.failures ≡ old.failures + wire_faults_in result
     → IsTcpStep old (read_item server buffer result) new
 read_step old new server buffer (Ok count) stays connected failures =
     record {
@@ -137,7 +137,7 @@ read_step old new server buffer (Err fault) stays connected failures =
 
 pub write_step : (old new : TcpState) (server : ℕ) (piece : List ℕ) (result : Result ℕ WireFault)
     → Stays old new
-    → new.connected ≡ old.connected → new.failures ≡ old.failures + refusals_in piece result
+    → new.connected ≡ old.connected → new.failures ≡ old.failures + wire_refusals_in piece result
     → IsTcpStep old (write_item server piece result) new
 write_step old new server [] (Ok zero) stays connected failures =
     record {

@@ -20,14 +20,14 @@ abbrev pub nanos_in_milli : ℕ
 nanos_in_milli = 1_000_000
 
 -- a probe begins with this time limit, some milliseconds after the last probe ended
-pub record IsGiven (old new : ProbeTime) (limit : Duration) : Type 0 where
+pub record IsProbeTimeGiven (old new : ProbeTime) (limit : Duration) : Type 0 where
   pub idle : ℕ
   pub left : new.left ≡ refilled old.whole old.left idle
   pub limited : as_nanos limit ≡ shared_limit old.whole new.left * nanos_in_milli
   pub whole : new.whole ≡ old.whole
 
 -- a probe ends that took some milliseconds
-pub record IsTaken (old new : ProbeTime) : Type 0 where
+pub record IsProbeTimeTaken (old new : ProbeTime) : Type 0 where
   pub used : ℕ
   pub left : new.left ≡ old.left - used
   pub whole : new.whole ≡ old.whole

@@ -9,14 +9,14 @@ use Rattle.tko_tcp.specs.ExchangeTimes.{left_at}
 
 -- a new connection belongs to the exchange that it was made for, which may have waited for it; the
 -- socket's limits are those of a whole exchange
-pub record IsOpened (time : ExchangeTime) (connection : TcpConnection) : Type 0 where
+pub record IsConnectionOpened (time : ExchangeTime) (connection : TcpConnection) : Type 0 where
   pub same_time : connection.time ≡ time
   pub waited : connection.has_waited ≡ true
   pub reads : connection.socket.read_limit ≡ time.limit
   pub writes : connection.socket.write_limit ≡ time.limit
 
 -- an exchange with this limit begins, none of whose calls has waited yet
-pub record Begins (limit : Duration) (old new : TcpConnection) : Type 0 where
+pub record BeginsExchange (limit : Duration) (old new : TcpConnection) : Type 0 where
   pub fresh : new.has_waited ≡ false
   pub limited : new.time.limit ≡ limit
   pub socket : new.socket ≡ old.socket

@@ -27,8 +27,8 @@ abbrev pub address_of : TcpServer → List ℕ
 address_of server = string_bytes server.address
 
 -- the time limit of the last exchange on the connection to a server
-abbrev pub limit_of : TcpServer → Option ℕ
-limit_of server = elim server.connection [
+abbrev pub time_limit_of : TcpServer → Option ℕ
+time_limit_of server = elim server.connection [
   | Some connection ↦ Some (as_nanos connection.time.limit)
   | None ↦ None
 ]

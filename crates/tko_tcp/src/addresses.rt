@@ -11,12 +11,12 @@ const MOST: usize = 32;
 /// The addresses of a host, without ports, in the order in which the resolver returned them; at
 /// most `MOST`. In contracts they are a list.
 #[derive(Drop)]
-pub(crate) struct Addresses {
+pub(crate) struct ResolvedAddresses {
     all: [SocketAddr; MOST],
     count: usize,
 }
 
-impl Model for Addresses {
+impl Model for ResolvedAddresses {
     ghost use Rattle.std.specs.Prelude.{◌≤◌, List, take};
     ghost use Rattle.std.specs.declared.net.socket_addr.SocketAddr.{SocketAddr};
     ghost use Rattle.tko_tcp.specs.TcpAddresses.{most_addresses};
@@ -28,21 +28,21 @@ impl Model for Addresses {
     ghost invariant = { λ addresses. addresses.count ≤ most_addresses };
 }
 
-impl Addresses {
-    pub(crate) fn none() -> Addresses
+impl ResolvedAddresses {
+    pub(crate) fn none() -> ResolvedAddresses
         ensures { result ≡ [] }
     {
-        Addresses {
+        ResolvedAddresses {
             all: [SocketAddr::from((Ipv4Addr::UNSPECIFIED, 0)); MOST],
             count: 0,
         }
     }
 
     /// Asks the system's resolver for the addresses of a host. Nothing limits how long that takes.
-    pub(crate) fn look_up<N: Net>(net: &N, host: &str) -> Result<Addresses> {
+    pub(crate) fn look_up<N: Net>(net: &N, host: &str) -> Result<ResolvedAddresses> {
         let mut all = [SocketAddr::from((Ipv4Addr::UNSPECIFIED, 0)); MOST];
         let count = net.lookup_host(host, 0, &mut all)?;
-        Ok(Addresses { all, count })
+        Ok(ResolvedAddresses { all, count })
     }
 
     pub(crate) fn as_slice(&self) -> &[SocketAddr]
@@ -51,10 +51,10 @@ impl Addresses {
         &self.all[..self.count]
     }
 
-    pub(crate) fn copy(&self) -> Addresses
+    pub(crate) fn copy(&self) -> ResolvedAddresses
         ensures { result ≡ self.now }
     {
-        Addresses {
+        ResolvedAddresses {
             all: self.all,
             count: self.count,
         }

@@ -1,7 +1,7 @@
 //! The time of an exchange.
 ghost use Rattle.std.specs.Prelude.{◌≡◌, ◌≤◌, ◌<◌, MatchOption, option_map};
 ghost use Rattle.std.specs.Duration.{as_nanos};
-ghost use Rattle.tko_tcp.specs.ExchangeTimes.{left_at, passed, share_of};
+ghost use Rattle.tko_tcp.specs.ExchangeTimes.{left_at, nanos_passed, share_of};
 
 use std::time::{Clock, Duration, Instant};
 
@@ -54,7 +54,7 @@ fn share_of(left: Duration, parts: u32) -> Duration
 }
 
 fn passed(from: Option<Instant>, to: Option<Instant>) -> Option<Duration>
-    ensures { option_map as_nanos result ≡ passed from to }
+    ensures { option_map as_nanos result ≡ nanos_passed from to }
 {
     match (from, to) {
         (Some(from), Some(to)) => Some(to.duration_since(from)),

@@ -1,14 +1,14 @@
 //! The addresses that are known for a host with a name, and what a connect does with them.
 ghost use Rattle.std.specs.Prelude.{◌≡◌, ◌≢◌, [], true, false};
-ghost use Rattle.tko_tcp.specs.Hosts.{IsAnswered, IsNext};
+ghost use Rattle.tko_tcp.specs.Hosts.{IsLookUpEnded, IsNext};
 
-use crate::addresses::Addresses;
+use crate::addresses::ResolvedAddresses;
 
 /// The addresses that are known for a host, and whether its look-up is requested.
 #[derive(Drop)]
 pub(crate) struct HostState {
     /// What the last successful look-up found.
-    known: Addresses,
+    known: ResolvedAddresses,
     is_asked: bool,
     /// Changes whenever a look-up has ended.
     ended: u64,
@@ -16,9 +16,9 @@ pub(crate) struct HostState {
 
 /// What a connect does next.
 #[derive(Drop)]
-pub(crate) enum Step {
+pub(crate) enum ConnectStep {
     /// Try these addresses.
-    Try(Addresses),
+    Try(ResolvedAddresses),
     /// Wait until the number of ended look-ups differs from this one.
     Wait(u64),
     /// Give up: a look-up has ended, and still no address is known.
@@ -32,7 +32,7 @@ impl HostState {
         ensures asked { result.is_asked ≡ true }
     {
         HostState {
-            known: Addresses::none(),
+            known: ResolvedAddresses::none(),
             is_asked: true,
             ended: 0,
         }
@@ -53,24 +53,24 @@ impl HostState {
 
     /// What a connect does next. `since` is the number of ended look-ups when it began to wait;
     /// None if it has not waited yet.
-    pub(crate) fn next(&mut self, since: Option<u64>) -> Step
+    pub(crate) fn next(&mut self, since: Option<u64>) -> ConnectStep
         ensures { IsNext self.old since result self.new }
     {
         if !self.known.as_slice().is_empty() {
-            return Step::Try(self.known.copy());
+            return ConnectStep::Try(self.known.copy());
         }
         match since {
-            Some(since) if since != self.ended => Step::GiveUp,
+            Some(since) if since != self.ended => ConnectStep::GiveUp,
             _ => {
                 self.is_asked = true;
-                Step::Wait(self.ended)
+                ConnectStep::Wait(self.ended)
             }
         }
     }
 
     /// Records that a look-up has ended and found these addresses.
-    pub(crate) fn answer(&mut self, found: Addresses)
-        ensures { IsAnswered self.old found self.new }
+    pub(crate) fn answer(&mut self, found: ResolvedAddresses)
+        ensures { IsLookUpEnded self.old found self.new }
     {
         if !found.as_slice().is_empty() {
             self.known = found;

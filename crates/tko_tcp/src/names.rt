@@ -6,9 +6,9 @@ ghost use Rattle.tko_tcp.specs.declared.host_state.HostState.{HostState};
 ghost use Rattle.tko_tcp.specs.Hosts.{IsNext};
 ghost use Rattle.tko_tcp.specs.ServerHosts.{name_at};
 
-use crate::addresses::Addresses;
+use crate::addresses::ResolvedAddresses;
 use crate::exchange_time::ExchangeTime;
-use crate::host_state::{HostState, Step};
+use crate::host_state::{ConnectStep, HostState};
 use crate::tcp_address::host_and_port;
 use std::alloc::{AllocError, Global};
 use std::net::IpAddr;
@@ -26,12 +26,12 @@ const LOW_HALF: u64 = 1 << 32;
 /// them.
 #[derive(Drop)]
 pub struct Names {
-    shared: Arc<Shared, Global>,
+    shared: Arc<SharedNames, Global>,
 }
 
 #[derive(Drop)]
-struct Shared {
-    hosts: Vec<Host>,
+struct SharedNames {
+    hosts: Vec<HostEntry>,
     /// Changes whenever a look-up is requested, and by `end`.
     asks: AtomicU64,
     /// Changes whenever a look-up has ended.
@@ -41,7 +41,7 @@ struct Shared {
 
 /// A host with a name, and what is known of it.
 #[derive(Drop)]
-pub(crate) struct Host {
+pub(crate) struct HostEntry {
     name: String,
     state: Mutex<HostState>,
 }
@@ -55,7 +55,7 @@ impl Names {
                 add(alloc, &mut hosts, name)?;
             }
         }
-        let shared = Shared {
+        let shared = SharedNames {
             hosts,
             asks: AtomicU64::new(0),
             answers: AtomicU64::new(0),
@@ -107,19 +107,19 @@ impl Names {
     }
 
     /// Looks up a host if its look-up is requested.
-    fn look_up_asked<R: IoRuntime>(&self, rt: &R, host: &Host) {
+    fn look_up_asked<R: IoRuntime>(&self, rt: &R, host: &HostEntry) {
         if !host.state.lock(rt).is_asked() {
             return;
         }
-        let found = Addresses::look_up(rt, host.name.as_str());
-        let found = found.unwrap_or(Addresses::none());
+        let found = ResolvedAddresses::look_up(rt, host.name.as_str());
+        let found = found.unwrap_or(ResolvedAddresses::none());
         host.state.lock(rt).answer(found);
         self.shared.answers.fetch_add(1, Ordering::SeqCst);
         self.shared.answers.wake_all();
     }
 
     /// The host with this name.
-    pub(crate) fn host(&self, name: &str) -> Option<&Host>
+    pub(crate) fn host(&self, name: &str) -> Option<&HostEntry>
         ensures { IfSome result (λ host. string_bytes host.now.name ≡ name.now) }
     {
         self.shared
@@ -144,12 +144,12 @@ impl Names {
     /// What a connect to the host at `place` does next, for a caller that must not wait. If no
     /// address is known, requests a look-up, unless one has ended since the caller last asked:
     /// `since` is the number of ended look-ups at that time.
-    pub(crate) fn next<R: Wait>(&self, rt: &R, place: usize, since: Option<u64>) -> Step
+    pub(crate) fn next<R: Wait>(&self, rt: &R, place: usize, since: Option<u64>) -> ConnectStep
         requires { place < length (arc_value self.now.shared).hosts.items }
         ensures { (old new : HostState) × IsNext old since result new }
     {
         let step = self.shared.hosts[place].next(rt, since);
-        if let Step::Wait(_) = &step {
+        if let ConnectStep::Wait(_) = &step {
             self.wake_resolver();
         }
         step
@@ -167,16 +167,16 @@ impl Names {
     pub(crate) fn addresses<R: IoRuntime>(
         &self,
         rt: &R,
-        host: &Host,
+        host: &HostEntry,
         time: &ExchangeTime,
-    ) -> Option<Addresses> {
+    ) -> Option<ResolvedAddresses> {
         let mut since = None;
         for _ in rt.forever() {
             let answers = self.shared.answers.load(Ordering::SeqCst);
             match host.next(rt, since) {
-                Step::Try(addresses) => return Some(addresses),
-                Step::Wait(ended) => since = Some(ended),
-                Step::GiveUp => return None,
+                ConnectStep::Try(addresses) => return Some(addresses),
+                ConnectStep::Wait(ended) => since = Some(ended),
+                ConnectStep::GiveUp => return None,
             }
             let left = time.left(Instant::now(rt).ok())?;
             self.wake_resolver();
@@ -187,7 +187,7 @@ impl Names {
     }
 
     /// Requests a look-up of a host.
-    pub(crate) fn ask<R: Wait>(&self, rt: &R, host: &Host) {
+    pub(crate) fn ask<R: Wait>(&self, rt: &R, host: &HostEntry) {
         host.state.lock(rt).ask();
         self.wake_resolver();
     }
@@ -198,14 +198,14 @@ impl Names {
     }
 }
 
-impl Host {
+impl HostEntry {
     fn has_name(&self, name: &str) -> bool
         ensures { OnTrue result (string_bytes self.now.name ≡ name.now) }
     {
         self.name.as_str() == name
     }
 
-    fn next<R: Wait>(&self, rt: &R, since: Option<u64>) -> Step
+    fn next<R: Wait>(&self, rt: &R, since: Option<u64>) -> ConnectStep
         ensures { (old new : HostState) × IsNext old since result new }
     {
         self.state.lock(rt).next(since)
@@ -228,12 +228,12 @@ fn name_in(address: &str) -> Option<&str> {
 }
 
 /// Adds a host with this name, unless there is one.
-fn add(alloc: Global, hosts: &mut Vec<Host>, name: &str) -> Result<(), NoMemory> {
+fn add(alloc: Global, hosts: &mut Vec<HostEntry>, name: &str) -> Result<(), NoMemory> {
     if hosts.iter().any(|host| host.name.as_str() == name) {
         return Ok(());
     }
     let name = String::from_str(alloc, name)?;
     let state = Mutex::new(HostState::new());
-    hosts.push(Host { name, state })?;
+    hosts.push(HostEntry { name, state })?;
     Ok(())
 }

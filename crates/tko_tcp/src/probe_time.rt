@@ -6,7 +6,7 @@
 //! many others do not answer.
 ghost use Rattle.std.specs.Prelude.{◌≡◌, ◌-◌, ◌*◌};
 ghost use Rattle.std.specs.Duration.{as_nanos};
-ghost use Rattle.tko_tcp.specs.ProbeTimes.{IsGiven, IsTaken, nanos_in_milli};
+ghost use Rattle.tko_tcp.specs.ProbeTimes.{IsProbeTimeGiven, IsProbeTimeTaken, nanos_in_milli};
 ghost use Rattle.tko_tcp.specs.ProbeTimes.{refilled, shared_limit};
 
 use std::time::{Clock, Duration, Instant};
@@ -44,7 +44,7 @@ impl ProbeTime {
 
     /// Begins a probe, and returns its time limit.
     pub(crate) fn begin<C: Clock>(&mut self, clock: &C) -> Duration
-        ensures { IsGiven self.old self.new result }
+        ensures { IsProbeTimeGiven self.old self.new result }
     {
         let passed = self.passed(clock);
         Duration::from_millis(self.give(passed))
@@ -52,7 +52,7 @@ impl ProbeTime {
 
     /// Ends a probe: takes its time off the budget.
     pub(crate) fn end<C: Clock>(&mut self, clock: &C)
-        ensures { IsTaken self.old self.new }
+        ensures { IsProbeTimeTaken self.old self.new }
     {
         let passed = self.passed(clock);
         self.take(passed);

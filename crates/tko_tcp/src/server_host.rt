@@ -2,7 +2,7 @@
 ghost use Rattle.std.specs.Prelude.{◌≡◌, IfOk, OnErr, OnOk};
 ghost use Rattle.tko_tcp.specs.ServerHosts.{IsLearned, LeadsTo};
 
-use crate::host_state::Step;
+use crate::host_state::ConnectStep;
 use crate::named_host::NamedHost;
 use crate::names::Names;
 use crate::tcp_address::host_and_port;
@@ -66,12 +66,12 @@ impl NamedHost {
         ensures err { OnErr result (all.new.items ≡ all.old.items) }
     {
         match self.names.next(rt, self.place, since) {
-            Step::Try(addresses) => {
+            ConnectStep::Try(addresses) => {
                 replace(all, addresses.as_slice())?;
                 Ok(Known::Addresses)
             }
-            Step::Wait(ended) => Ok(Known::Asked(ended)),
-            Step::GiveUp => Ok(Known::Nothing),
+            ConnectStep::Wait(ended) => Ok(Known::Asked(ended)),
+            ConnectStep::GiveUp => Ok(Known::Nothing),
         }
     }
 

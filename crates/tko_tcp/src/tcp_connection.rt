@@ -6,7 +6,7 @@
 ghost use Rattle.std.specs.Prelude.{◌≡◌, ◌≤◌, ◌↔◌, true, false, IfErr, IfOk, length};
 ghost use Rattle.std.specs.IoError.{error_kind};
 ghost use Rattle.tko_tcp.specs.ExchangeTimes.{left_at};
-ghost use Rattle.tko_tcp.specs.TcpConnections.{Begins, IsAllowed, IsOpened, IsQuick};
+ghost use Rattle.tko_tcp.specs.TcpConnections.{BeginsExchange, IsAllowed, IsConnectionOpened, IsQuick};
 ghost use Rattle.tko_tcp.specs.WireFaults.{fault_of_kind};
 
 use crate::exchange_time::ExchangeTime;
@@ -39,7 +39,7 @@ impl TcpConnection {
         address: &str,
         time: ExchangeTime,
     ) -> Result<TcpConnection, WireFault>
-        ensures { IfOk result (λ connection. IsOpened time connection) }
+        ensures { IfOk result (λ connection. IsConnectionOpened time connection) }
     {
         let stream = connect(rt, names, address, &time).map_err(fault_of)?;
         stream.set_nodelay(true).map_err(fault_of)?;
@@ -54,7 +54,7 @@ impl TcpConnection {
     /// Begins an exchange with this time limit, and returns whether the connection can be used for
     /// it.
     pub(crate) fn begin<R: IoRuntime>(&mut self, rt: &R, limit: Duration) -> bool
-        ensures { Begins limit self.old self.new }
+        ensures { BeginsExchange limit self.old self.new }
     {
         self.time = ExchangeTime::begin(rt, limit);
         self.has_waited = false;

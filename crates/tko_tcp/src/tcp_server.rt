@@ -3,8 +3,8 @@ ghost use Rattle.std.specs.Prelude.{◌≡◌, ◌≤◌, false, true, IfOk, IfS
 ghost use Rattle.std.specs.Prelude.{length, string_bytes};
 ghost use Rattle.std.specs.Duration.{as_nanos};
 ghost use Rattle.tko_tcp.specs.declared.exchange_time.ExchangeTime.{ExchangeTime};
-ghost use Rattle.tko_tcp.specs.TcpConnections.{IsOpened};
-ghost use Rattle.tko_tcp.specs.TcpWires.{address_of, is_open, limit_of};
+ghost use Rattle.tko_tcp.specs.TcpConnections.{IsConnectionOpened};
+ghost use Rattle.tko_tcp.specs.TcpWires.{address_of, is_open, time_limit_of};
 ghost use Rattle.tko_links.specs.Wires.{is_ok};
 
 use crate::exchange_time::ExchangeTime;
@@ -46,10 +46,10 @@ impl TcpServer {
         limit: Duration,
     ) -> Result<(), WireFault>
         ensures connected { is_open self.new ≡ is_ok result }
-        ensures limited { OnOk result (limit_of self.new ≡ Some (as_nanos limit)) }
+        ensures limited { OnOk result (time_limit_of self.new ≡ Some (as_nanos limit)) }
         ensures address { address_of self.new ≡ address_of self.old }
         ensures opened { OnOk result (IfSome self.new.connection (λ connection.
-            (time : ExchangeTime) × (time.limit ≡ limit) × IsOpened time connection)) }
+            (time : ExchangeTime) × (time.limit ≡ limit) × IsConnectionOpened time connection)) }
     {
         self.shut();
         let time = ExchangeTime::begin(rt, limit);
@@ -87,7 +87,7 @@ impl TcpServer {
     /// Begins an exchange, and returns whether the open connection can be used for it.
     pub(crate) fn begin<R: IoRuntime>(&mut self, rt: &R, limit: Duration) -> bool
         ensures kept { is_open self.new ≡ is_open self.old }
-        ensures limited { is_open self.old ≡ true → limit_of self.new ≡ Some (as_nanos limit) }
+        ensures limited { is_open self.old ≡ true → time_limit_of self.new ≡ Some (as_nanos limit) }
         ensures address { address_of self.new ≡ address_of self.old }
     {
         match &mut self.connection {

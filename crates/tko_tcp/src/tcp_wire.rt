@@ -7,7 +7,7 @@ ghost use Rattle.std.specs.Prelude.{◌≡◌, ◌+◌, ◌*◌, ◌<◌, None, 
 ghost use Rattle.std.specs.Prelude.{replicate, string_bytes};
 ghost use Rattle.tko_tcp.specs.ProbeTimes.{nanos_in_milli};
 ghost use Rattle.tko_tcp.specs.TcpWires.{IsTcpStep};
-ghost use Rattle.tko_links.specs.Wires.{faults_in, refusals_in};
+ghost use Rattle.tko_links.specs.Wires.{wire_faults_in, wire_refusals_in};
 
 use crate::names::Names;
 use crate::probe_time::ProbeTime;
@@ -37,14 +37,14 @@ impl Model for TcpWire {
     ghost use Rattle.std.specs.Prelude.{◌*◌, map};
     ghost use Rattle.std.specs.Duration.{as_nanos};
     ghost use Rattle.tko_tcp.specs.ProbeTimes.{nanos_in_milli};
-    ghost use Rattle.tko_tcp.specs.TcpWires.{TcpState, address_of, is_open, limit_of};
+    ghost use Rattle.tko_tcp.specs.TcpWires.{TcpState, address_of, is_open, time_limit_of};
 
     ghost Value = { TcpState };
 
     ghost view = { λ wire. record {
       addresses = map address_of wire.servers.items;
       connected = map is_open wire.servers.items;
-      limits = map limit_of wire.servers.items;
+      limits = map time_limit_of wire.servers.items;
       failures = wire.failures;
       limit = as_nanos wire.limit;
       whole = wire.probe_time.whole * nanos_in_milli;

@@ -8,7 +8,7 @@ use Rattle.tko_text.specs.declared.item.Item.TheVariants as item
 use Rattle.tko_text.specs.Commands.{ParsedLine, Asks, AwaitsData, Refused, parsed}
 use Rattle.tko_bytes.specs.Lines.{line_feed, carriage_return, crlf, HasNoEnd, content}
 use Rattle.tko_text.specs.Lines.{IsLine, IsTooLong}
-use Rattle.tko_text.specs.Reading.{After, Next, Pass, PassLine, Never, Reading, after_wrong, IsWrongEnd, Completes, Decides, by_line, by_length, passed, fed, start, Emits, NeedsMore, EmitsEach, FeedingKeeps, OneReading}
+use Rattle.tko_text.specs.Reading.{After, Next, Pass, PassLine, Never, Reading, after_wrong, IsWrongEnd, Completes, Decides, by_line, by_length, passed, fed, reading_start, Emits, NeedsMore, EmitsEach, FeedingKeeps, OneReading}
 
 passed-enough : (n : ℕ) (xs : List ℕ) → n ≤ length xs
     → passed (Pass n) xs ≡ record { after = Next; unread = drop n xs }
@@ -216,4 +216,4 @@ feeding_keeps = Emits-fed
 
 pub one_reading : OneReading
 one_reading bytes items others left rest v w =
-    same_items (fed start bytes) items others left rest v.gives.each v.open_end w.gives.each w.open_end
+    same_items (fed reading_start bytes) items others left rest v.gives.each v.open_end w.gives.each w.open_end

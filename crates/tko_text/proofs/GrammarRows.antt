@@ -17,7 +17,7 @@ use Rattle.tko_text.specs.Commands.{bad_line, Asks, AwaitsData, Refused, Next, P
 use Rattle.tko_text.specs.Keys.{is_key}
 use Rattle.tko_text.specs.Limits.{line_limit}
 use Rattle.tko_text.specs.Lines.{IsLine}
-use Rattle.tko_text.specs.Reading.{Emits, fed, start}
+use Rattle.tko_text.specs.Reading.{Emits, fed, reading_start}
 use Rattle.tko_text.specs.Requests.{request_text}
 use Rattle.tko_text.proofs.DataLemmas.{Emits-whole, Emits-wrong, Emits-wrong_line}
 use Rattle.tko_text.proofs.ReadingLemmas.{Emits-line}
@@ -202,7 +202,7 @@ line_by before test =
     }
 
 -- a bad chunk goes on to the first LF that follows the data
-bad_chunk_then_version : Emits (fed start (codes "set a 0 0 2\r\nxyz\r\nversion\r\n")) (item.Fault BadChunk) (fed start (codes "version\r\n"))
+bad_chunk_then_version : Emits (fed reading_start (codes "set a 0 0 2\r\nxyz\r\nversion\r\n")) (item.Fault BadChunk) (fed reading_start (codes "version\r\n"))
 unfolding is_key number_of form_of
 bad_chunk_then_version =
     Emits-wrong (codes "set a 0 0 2\r") (codes "xyz\r\nversion\r\n") 2
@@ -210,7 +210,7 @@ bad_chunk_then_version =
     (line_by (codes "set a 0 0 2\r") refl) refl 3 (inl (refl, omega arith, λ e. omega (arith, e), λ e. omega (arith, e)))
 
 -- the LF right after the data of the wrong length ends the bad chunk, and is no line of its own
-bad_chunk_at_line_feed : Emits (fed start (codes "set a 0 0 2\nxy\nquit\n")) (item.Fault BadChunk) (fed start (codes "quit\n"))
+bad_chunk_at_line_feed : Emits (fed reading_start (codes "set a 0 0 2\nxy\nquit\n")) (item.Fault BadChunk) (fed reading_start (codes "quit\n"))
 unfolding is_key number_of form_of
 bad_chunk_at_line_feed =
     Emits-wrong_line (codes "set a 0 0 2") (codes "xy\nquit\n") 2
@@ -218,7 +218,7 @@ bad_chunk_at_line_feed =
     (line_by (codes "set a 0 0 2") refl) refl 3 (refl, omega arith, refl)
 
 -- data are counted, so that an LF among them is data
-line_feed_in_data : Emits (fed start (codes "set a 0 0 2\nx\n\r\nget")) (item.Request (Store Set (record { key = codes "a"; flags = 0; expiry = pos 0; value = codes "x\n" }) false)) (fed start (codes "get"))
+line_feed_in_data : Emits (fed reading_start (codes "set a 0 0 2\nx\n\r\nget")) (item.Request (Store Set (record { key = codes "a"; flags = 0; expiry = pos 0; value = codes "x\n" }) false)) (fed reading_start (codes "get"))
 unfolding is_key number_of form_of
 line_feed_in_data =
     Emits-whole (codes "set a 0 0 2") (codes "x\n\r\nget") 2
@@ -226,7 +226,7 @@ line_feed_in_data =
     (line_by (codes "set a 0 0 2") refl) refl (omega arith, refl, refl)
 
 -- a bad key is followed by the next line once the data and their CR LF are skipped
-bad_key_with_data : Emits (fed start (codes "set a\tb 0 0 2\r\nxy\r\nquit\r\n")) (item.Fault BadKey) (fed start (codes "quit\r\n"))
+bad_key_with_data : Emits (fed reading_start (codes "set a\tb 0 0 2\r\nxy\r\nquit\r\n")) (item.Fault BadKey) (fed reading_start (codes "quit\r\n"))
 unfolding is_key number_of form_of
 bad_key_with_data =
     Emits-line (codes "set a\tb 0 0 2\r") (codes "xy\r\nquit\r\n") (item.Fault BadKey) (Pass 4)
@@ -237,7 +237,7 @@ skipped_in_pieces : fed (fed (record { after = Pass 5; unread = [] }) (codes "ab
 skipped_in_pieces = refl
 
 -- an unfinished item counts with its line
-unfinished_data : length (fed (fed start (codes "set a 0 0 5\r\n")) (codes "he")).unread ≡ 15
+unfinished_data : length (fed (fed reading_start (codes "set a 0 0 5\r\n")) (codes "he")).unread ≡ 15
 unfinished_data = refl
 
 -- Printed forms

@@ -9,7 +9,7 @@ use Rattle.tko_text.specs.ListingFaults.{IsOtherLine, ListFault, NoListing, NotA
 use Rattle.tko_text.specs.ResponseFaults.{DataFault, EndFault, LineFault}
 use Rattle.tko_text.specs.ResponseLines.{Split, SplitsLine}
 use Rattle.tko_text.specs.Responses.IsCutListing.{in_line, in_value, after_value}
-use Rattle.tko_text.specs.Responses.{AreAwaited, IsAnswerLine, IsAwaited, IsCutData, IsCutListing, IsHead, IsValueText, block}
+use Rattle.tko_text.specs.Responses.{AreAwaited, IsAnswerLine, IsCutData, IsCutListing, IsHead, IsValueAwaited, IsValueText, block}
 use Rattle.tko_text.proofs.ListingTexts.{cut_is_no_listing, cut_line, cut_text_is_no_text, listing_line, overlong_isnt_listing, same_text, text_is_no_end, text_line}
 use Rattle.tko_text.proofs.ResponseBodyLemmas.{end_fault_has_none, end_fault_isnt_open, head_is_one, wrong_data_has_none, wrong_data_isnt_cut}
 use Rattle.tko_text.proofs.ResponseLineLemmas.{line_is_one, open_line_has_none, overlong_has_none}
@@ -86,7 +86,7 @@ module _ (keys : List (List ℕ)) (unique : Bool) (had : List (List ℕ)) (bytes
   pub list_unawaited : NotAwaited keys unique had line → ListFault fault.Unreadable keys unique had bytes
   list_unawaited none = (unawaited_isnt_cut none, unawaited_is_no_listing none)
 
-  module _ (key : List ℕ) (flags size : ℕ) (cas : Option ℕ) (head : IsHead line key flags size cas) (asked : IsAwaited keys unique had key cas) where
+  module _ (key : List ℕ) (flags size : ℕ) (cas : Option ℕ) (head : IsHead line key flags size cas) (asked : IsValueAwaited keys unique had key cas) where
     text_size : (v : Value) → IsHead line v.key v.flags (length v.data) v.unique → length v.data ≡ size
     text_size v is = sym (head_is_one line key v.key flags v.flags size (length v.data) cas v.unique head is).2
 
@@ -132,7 +132,7 @@ module _ (keys : List (List ℕ)) (unique : Bool) (had : List (List ℕ)) (bytes
 
 -- a value that may be here, whose text is whole: the fault of what follows it is that of all
 module _ (keys : List (List ℕ)) (unique : Bool) (had : List (List ℕ)) (bytes first rest : List ℕ) (v : Value) (whole : bytes ≡ first ++ rest)
-    (text : IsValueText first v) (asked : IsAwaited keys unique had v.key v.unique) where
+    (text : IsValueText first v) (asked : IsValueAwaited keys unique had v.key v.unique) where
   none_after : NoListing keys unique (had ++ v.key ∷ []) rest → NoListing keys unique had bytes
   none_after none front more [] e is awaited = text_is_no_end first front v rest more text is (sym whole ∙ e)
   none_after none front more (w ∷ ws) e is awaited =

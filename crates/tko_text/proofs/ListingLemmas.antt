@@ -14,7 +14,7 @@ use Rattle.tko_text.specs.Places.{keys_at}
 use Rattle.tko_bytes.specs.Words.{words}
 use Rattle.tko_text.specs.ListingFaults.{NotAwaited}
 use Rattle.tko_text.specs.ResponseFaults.{NoHead, value_line}
-use Rattle.tko_text.specs.Responses.{IsAwaited, IsHead, is_among}
+use Rattle.tko_text.specs.Responses.{IsHead, IsValueAwaited, is_among}
 
 -- the keys of places, by a test of places
 pub keys_among : (places : List ValuePlace) (key : List ℕ)
@@ -78,7 +78,7 @@ none_announced keys unique had arguments word more first none key flags size cas
 pub is_awaited : (keys : List (List ℕ)) (unique : Bool) (places : List ValuePlace) (word : List ℕ) (index : ℕ) (cas : Option ℕ)
     → index < length keys → get_or keys index [] ≡ word
     → list_any (λ (place : ValuePlace). bytes_eq place.key word) places ≡ false → is_some cas ≡ unique
-    → IsAwaited keys unique (keys_at places) (get_or keys index []) cas
+    → IsValueAwaited keys unique (keys_at places) (get_or keys index []) cas
 is_awaited keys unique places word index cas below at none unique_is =
     rw at (
       list_any_at (λ other. bytes_eq other word) keys index [] below ((bytes_eq-Decides (get_or keys index []) word).1 at),

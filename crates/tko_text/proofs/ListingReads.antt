@@ -9,7 +9,7 @@ use Rattle.tko_text.specs.declared.response.place.ValuePlace.{ValuePlace}
 use Rattle.tko_text.specs.ListingFaults.{ErrorFault, IsError, IsErrorLine, ListFault, NoListing, ReadsList}
 use Rattle.tko_text.specs.Places.{values_in}
 use Rattle.tko_text.specs.ResponseFaults.{Misses, NoneOf, ReadsOf, line_response}
-use Rattle.tko_text.specs.ResponseLines.{IsLine, Split, SplitsLine}
+use Rattle.tko_text.specs.ResponseLines.{IsSplitLine, Split, SplitsLine}
 use Rattle.tko_text.specs.Responses.IsCutListing.{in_line}
 use Rattle.tko_text.specs.Responses.{Listing, Says, Spells, Suits}
 use Rattle.tko_text.proofs.ListingTexts.{cut_is_no_line}
@@ -53,7 +53,7 @@ line_is_error keys unique line (response.ServerError text) says suits = tt
 
 -- the first line is no response, or not such a one
 module _ (bytes : List ℕ) (line : Split) (rest : List ℕ) (split : SplitsLine bytes line rest) where
-  said_here : (first more : List ℕ) (other : Split) (r : Response) → bytes ≡ first ++ more → IsLine first other → Says other r → Says line r
+  said_here : (first more : List ℕ) (other : Split) (r : Response) → bytes ≡ first ++ more → IsSplitLine first other → Says other r → Says line r
   said_here first more other r e is says =
       let same = line_is_one split.0 first line other rest more split.1 is (sym split.2 ∙ e) in
       subst (λ (l : Split). Says l r) (sym same.1) says

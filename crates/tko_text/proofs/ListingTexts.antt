@@ -4,9 +4,9 @@ use Rattle.std.specs.Prelude.{codes}
 use Rattle.tko_text.specs.declared.response.Response.{Response}
 use Rattle.tko_text.specs.declared.response.Response.TheVariants as response
 use Rattle.tko_text.specs.declared.response.body.Value.{Value}
-use Rattle.tko_text.specs.ResponseLines.{IsLine, IsOpenLine, IsOverlong, Split}
+use Rattle.tko_text.specs.ResponseLines.{IsOpenLine, IsOverlong, IsSplitLine, Split}
 use Rattle.tko_text.specs.Responses.IsCutListing.{in_line, in_value, after_value}
-use Rattle.tko_text.specs.Responses.{Kind, Retrieval, Listing, Storage, Deletion, Counting, Touching, Probe, IsAnswerLine, IsCutList, IsCutListing, IsCutText, IsListing, IsValueText, Says, block}
+use Rattle.tko_text.specs.Responses.{RequestKind, Retrieval, Listing, Storage, Deletion, Counting, Touching, Probe, IsAnswerLine, IsCutList, IsCutListing, IsCutText, IsListing, IsValueText, Says, block}
 use Rattle.tko_text.proofs.ResponseBodyLemmas.{cut_data_has_none, data_is_one, head_is_one}
 use Rattle.tko_text.proofs.ResponseLineLemmas.{line_is_one, open_line_has_none, overlong_has_none}
 use Rattle.tko_text.proofs.ResponseWordLemmas.{says_no_head, value_says_nothing}
@@ -37,7 +37,7 @@ same_text a b x y v w one two e =
 
 -- the text of a value begins with no line that is a response
 pub text_says_nothing : (first : List ℕ) (v : Value) (rest other more : List ℕ) (line : Split) (r : Response)
-    → IsValueText first v → IsLine other line → Says line r → first ++ rest ≡ other ++ more → ⊥
+    → IsValueText first v → IsSplitLine other line → Says line r → first ++ rest ≡ other ++ more → ⊥
 text_says_nothing first v rest other more line r text is says e =
     let same = line_is_one text.head other text.line line (block v.data ++ rest) more text.is_line is (sym (text_line first rest v text) ∙ e) in
     says_no_head text.line v.key v.flags (length v.data) v.unique r (subst (λ (l : Split). Says l r) (sym same.1) says) text.is_head
@@ -49,14 +49,14 @@ text_is_no_end first last v rest more text end e =
 
 -- a listing begins with a line
 pub listing_line : (front : List ℕ) (values : List Value) → IsListing front values
-    → (a : List ℕ) × (s : Split) × (x : List ℕ) × IsLine a s × (front ≡ a ++ x)
+    → (a : List ℕ) × (s : Split) × (x : List ℕ) × IsSplitLine a s × (front ≡ a ++ x)
 listing_line front [] is = (front, is.line, [], is.is_line, sym (append-nil front))
 listing_line front (v ∷ vs) is =
     (is.3.head, is.3.line, block v.data ++ is.1, is.3.is_line, is.2 ∙ text_line is.0 is.1 v is.3)
 
 -- a listing that isn't whole begins with a line that has no end yet, or with one that announces a value
 pub cut_line : (keys : List (List ℕ)) (unique : Bool) (had : List (List ℕ)) (bytes : List ℕ) → IsCutListing keys unique had bytes
-    → IsOpenLine bytes ⊎ ((a : List ℕ) × (s : Split) × (x : List ℕ) × IsLine a s × (bytes ≡ a ++ x) × (s.word ≡ codes "VALUE"))
+    → IsOpenLine bytes ⊎ ((a : List ℕ) × (s : Split) × (x : List ℕ) × IsSplitLine a s × (bytes ≡ a ++ x) × (s.word ≡ codes "VALUE"))
 cut_line keys unique had bytes (in_line k u h b open_line) = inl open_line
 cut_line keys unique had bytes (in_value k u h b cut) = inr (cut.head, cut.line, cut.body, cut.is_line, cut.whole, cut.is_head.word_is)
 cut_line keys unique had bytes (after_value k u h b first rest v e text awaited cut) =
@@ -69,7 +69,7 @@ overlong_isnt_listing keys unique had bytes overlong cut = elim (cut_line keys u
   | inr first ↦ overlong_has_none bytes first.0 first.1 first.2 overlong first.3 first.4
 ]
 
-pub overlong_isnt_cut : (kind : Kind) (bytes : List ℕ) → IsOverlong bytes → IsCutList kind bytes → ⊥
+pub overlong_isnt_cut : (kind : RequestKind) (bytes : List ℕ) → IsOverlong bytes → IsCutList kind bytes → ⊥
 overlong_isnt_cut (Retrieval key unique) bytes overlong cut = cut
 overlong_isnt_cut (Listing keys unique) bytes overlong cut = overlong_isnt_listing keys unique [] bytes overlong cut
 overlong_isnt_cut Storage bytes overlong cut = cut
@@ -80,7 +80,7 @@ overlong_isnt_cut Probe bytes overlong cut = cut
 
 -- where a listing isn't whole, the first line is no response
 pub cut_is_no_line : (keys : List (List ℕ)) (unique : Bool) (had : List (List ℕ)) (bytes front rest : List ℕ) (line : Split) (r : Response)
-    → IsCutListing keys unique had bytes → IsLine front line → Says line r → bytes ≡ front ++ rest → ⊥
+    → IsCutListing keys unique had bytes → IsSplitLine front line → Says line r → bytes ≡ front ++ rest → ⊥
 cut_is_no_line keys unique had bytes front rest line r cut is says e = elim (cut_line keys unique had bytes cut) [
   | inl open_line ↦ open_line_has_none bytes front line rest open_line is e
   | inr first ↦
@@ -89,8 +89,8 @@ cut_is_no_line keys unique had bytes front rest line r cut is says e = elim (cut
       value_says_nothing line.rest r (subst (λ (w : List ℕ). Says (record { word = w; rest = line.rest }) r) word says)
 ]
 
-pub cut_list_is_no_line : (kind : Kind) (bytes front rest : List ℕ) (line : Split) (r : Response)
-    → IsCutList kind bytes → IsLine front line → Says line r → bytes ≡ front ++ rest → ⊥
+pub cut_list_is_no_line : (kind : RequestKind) (bytes front rest : List ℕ) (line : Split) (r : Response)
+    → IsCutList kind bytes → IsSplitLine front line → Says line r → bytes ≡ front ++ rest → ⊥
 cut_list_is_no_line (Retrieval key unique) bytes front rest line r cut is says e = cut
 cut_list_is_no_line (Listing keys unique) bytes front rest line r cut is says e = cut_is_no_line keys unique [] bytes front rest line r cut is says e
 cut_list_is_no_line Storage bytes front rest line r cut is says e = cut
@@ -124,7 +124,7 @@ cut_is_no_listing keys unique had bytes front rest (v ∷ vs) (after_value k u h
     let same = same_text first is.0 more (is.1 ++ rest) w v text is.3 (sym whole ∙ e ∙ ap (λ xs. xs ++ rest) is.2 ∙ append_assoc is.0 is.1 rest) in
     cut_is_no_listing keys unique (had ++ w.key ∷ []) more is.1 rest vs cut is.4 same.2
 
-pub cut_has_no_listing : (kind : Kind) (bytes front rest : List ℕ) (values : List Value) → IsCutList kind bytes
+pub cut_has_no_listing : (kind : RequestKind) (bytes front rest : List ℕ) (values : List Value) → IsCutList kind bytes
     → IsListing front values → bytes ≡ front ++ rest → ⊥
 cut_has_no_listing (Retrieval key unique) bytes front rest values cut is e = cut
 cut_has_no_listing (Listing keys unique) bytes front rest values cut is e = cut_is_no_listing keys unique [] bytes front rest values cut is e

@@ -15,7 +15,7 @@ use Rattle.tko_text.specs.ListingFaults.{IsNextText, ListFault, ReadsList}
 use Rattle.tko_text.specs.Places.{IsPlaceIn, keys_at, placed_data, value_at, values_in}
 use Rattle.tko_text.specs.ResponseFaults.{SplitsEnd}
 use Rattle.tko_text.specs.ResponseLines.{IsData}
-use Rattle.tko_text.specs.Responses.{AreAwaited, IsAnswerLine, IsAwaited, IsListing, IsValueText, block}
+use Rattle.tko_text.specs.Responses.{AreAwaited, IsAnswerLine, IsListing, IsValueAwaited, IsValueText, block}
 use Rattle.tko_text.proofs.ListingFaultLemmas.{list_fault_after}
 use Rattle.tko_text.proofs.ResponseLemmas.{taken}
 
@@ -41,14 +41,14 @@ texts_end front last (w ∷ ws) texts end =
     (texts.0, texts.1 ++ last, ap (λ xs. xs ++ last) texts.2 ∙ append_assoc texts.0 texts.1 last, texts.3, texts_end texts.1 last ws texts.4 end)
 
 awaited_push : (keys : List (List ℕ)) (unique : Bool) (had : List (List ℕ)) (values : List Value) (v : Value)
-    → AreAwaited keys unique had values → IsAwaited keys unique (had ++ keys_of values) v.key v.unique
+    → AreAwaited keys unique had values → IsValueAwaited keys unique (had ++ keys_of values) v.key v.unique
     → AreAwaited keys unique had (values ++ v ∷ [])
 awaited_push keys unique had [] v before awaited =
-    (subst (λ (ks : List (List ℕ)). IsAwaited keys unique ks v.key v.unique) (append-nil had) awaited, tt)
+    (subst (λ (ks : List (List ℕ)). IsValueAwaited keys unique ks v.key v.unique) (append-nil had) awaited, tt)
 awaited_push keys unique had (w ∷ ws) v before awaited = (
   before.0,
   awaited_push keys unique (had ++ w.key ∷ []) ws v before.1
-      (subst (λ (ks : List (List ℕ)). IsAwaited keys unique ks v.key v.unique) (sym (append_assoc had (w.key ∷ []) (keys_of ws))) awaited),
+      (subst (λ (ks : List (List ℕ)). IsValueAwaited keys unique ks v.key v.unique) (sym (append_assoc had (w.key ∷ []) (keys_of ws))) awaited),
 )
 
 -- the fault of what follows values that are whole is that of all
@@ -191,6 +191,6 @@ module _ (keys : List (List ℕ)) (unique : Bool) (bytes : List ℕ) (places : L
           (texts_push is.front next.first (values_in is.front places) (value_of key head stored) is.texts next.text);
       awaited = subst (λ (vs : List Value). AreAwaited keys unique [] vs) (sym values_are)
           (awaited_push keys unique [] (values_in is.front places) (value_of key head stored) is.awaited
-          (subst (λ (ks : List (List ℕ)). IsAwaited keys unique ks key head.unique) (sym (keys_of_places is.front places)) next.awaited));
+          (subst (λ (ks : List (List ℕ)). IsValueAwaited keys unique ks key head.unique) (sym (keys_of_places is.front places)) next.awaited));
       fits = All-push (IsPlaceIn (is.front ++ next.first)) places place (fits_longer is.front next.first places is.fits) place_is_in;
     }

@@ -8,14 +8,14 @@ use Rattle.std.specs.Prelude.{codes}
 use Rattle.tko_bytes.specs.Lines.{crlf}
 use Rattle.tko_bytes.specs.Words.{space}
 use Rattle.tko_text.specs.declared.request.Entry.{Entry}
-use Rattle.tko_text.specs.Requests.{keys_text, line_of, noreply_text, stored_pieces, stored_text}
+use Rattle.tko_text.specs.Requests.{keys_text, line_of_words, noreply_text, stored_pieces, stored_text}
 
 -- words, with a space before each but the first
 pub join-keys : (word : List ℕ) (keys : List (List ℕ)) → join_with_byte space (word ∷ keys) ≡ word ++ keys_text keys
 join-keys word [] = sym (append-nil word)
 join-keys word (key ∷ keys) = ap (λ xs. word ++ space ∷ xs) (join-keys key keys)
 
-pub keys_line : (word : List ℕ) (keys : List (List ℕ)) → line_of (word ∷ keys) ≡ word ++ keys_text keys ++ crlf
+pub keys_line : (word : List ℕ) (keys : List (List ℕ)) → line_of_words (word ∷ keys) ≡ word ++ keys_text keys ++ crlf
 keys_line word keys = ap (λ xs. xs ++ crlf) (join-keys word keys)
 
 -- one key more
@@ -30,7 +30,7 @@ keys_more out new all key bytes keys i inside here same is before =
 
 -- all keys, and the end of the line
 pub keys_done : (start word out new : List ℕ) (keys : List (List ℕ)) (i : ℕ) → length keys ≤ i
-    → out ++ keys_text (drop i keys) ≡ start ++ word ++ keys_text keys → new ≡ out ++ crlf → new ≡ start ++ line_of (word ∷ keys)
+    → out ++ keys_text (drop i keys) ≡ start ++ word ++ keys_text keys → new ≡ out ++ crlf → new ≡ start ++ line_of_words (word ∷ keys)
 keys_done start word out new keys i past all is =
     is ∙ ap (λ xs. xs ++ crlf) (sym (append-nil out) ∙ sym (ap (λ ks. out ++ keys_text ks) (drop_all i keys past)) ∙ all)
     ∙ rw (keys_line word keys) (simp append_assoc)

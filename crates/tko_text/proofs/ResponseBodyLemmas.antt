@@ -10,7 +10,7 @@ use Rattle.tko_bytes.specs.Numbers.{number_of}
 use Rattle.tko_text.specs.Heads.{value_of}
 use Rattle.tko_text.specs.Limits.{number_limit}
 use Rattle.tko_text.specs.ResponseLines.{IsOpenLine, IsNumber, Split, SplitsLine}
-use Rattle.tko_text.specs.Responses.{Kind, Retrieval, Asks, IsAlone, IsCas, IsHead, IsBody, IsCutData, block}
+use Rattle.tko_text.specs.Responses.{RequestKind, Retrieval, Asks, IsOneWord, IsCas, IsHead, IsBody, IsCutData, block}
 use Rattle.tko_text.specs.ResponseFaults.{NoHead, DataFault, EndFault, SplitsEnd, SplitsBody, BodyFault}
 use Rattle.tko_text.proofs.ResponseLineLemmas.{line_is_one, open_line_has_none, overlong_has_none}
 
@@ -100,7 +100,7 @@ end_fault_has_none fault.Unreadable rest more wrong is = elim wrong [
   | inl overlong ↦ overlong_has_none rest is.0 is.1.line more overlong is.1.is_line is.2
   | inr other ↦
       let one = line_is_one other.2.0 is.0 other.0 is.1.line other.1 more other.2.1 is.1.is_line (sym other.2.2 ∙ is.2) in
-      other.3 (subst (λ (l : Split). IsAlone (codes "END") l) (sym one.1) is.1.says)
+      other.3 (subst (λ (l : Split). IsOneWord (codes "END") l) (sym one.1) is.1.says)
 ]
 end_fault_has_none fault.Memory rest more none is = none
 
@@ -122,7 +122,7 @@ no_head key unique line bytes none =
       λ body rest found e is asked. nothing found.key found.flags (length found.data) found.unique is.is_head asked,
     )
 
-module _ (kind : Kind) (line : Split) (key : List ℕ) (flags size : ℕ) (cas : Option ℕ) (head : IsHead line key flags size cas) (asked : Asks kind key cas) where
+module _ (kind : RequestKind) (line : Split) (key : List ℕ) (flags size : ℕ) (cas : Option ℕ) (head : IsHead line key flags size cas) (asked : Asks kind key cas) where
   same_size : (other : List ℕ) (f s : ℕ) (c : Option ℕ) → IsHead line other f s c → s ≡ size
   same_size other f s c is = sym (head_is_one line key other flags f size s cas c head is).2
 
@@ -185,7 +185,7 @@ module _ (kind : Kind) (line : Split) (key : List ℕ) (flags size : ℕ) (cas :
   )
 
 -- where the data of a value are, which the line announces that the rest follows
-pub data_there : (kind : Kind) (line first : Split) (bytes rest more : List ℕ) (found : Value)
+pub data_there : (kind : RequestKind) (line first : Split) (bytes rest more : List ℕ) (found : Value)
     → SplitsLine bytes first rest → SplitsBody kind line rest found more
     → take (length found.«data») (drop (length bytes - length rest) bytes) ≡ found.«data»
 data_there kind line first bytes rest more found split goes =
@@ -199,7 +199,7 @@ data_there kind line first bytes rest more found split goes =
     ap (take (length stored)) (at ∙ flat) ∙ take_at stored _ (length stored) refl
 
 -- a value that is told with the data at their place is the value that was found
-pub placed : (kind : Kind) (line first : Split) (bytes rest more : List ℕ) (key : List ℕ) (head : Head)
+pub placed : (kind : RequestKind) (line first : Split) (bytes rest more : List ℕ) (key : List ℕ) (head : Head)
     (stored : List ℕ) → SplitsLine bytes first rest
     → SplitsBody kind line rest (value_of key head stored) more → length stored ≡ head.size
     → stored ≡ take head.size (drop (length bytes - length rest) bytes)

@@ -4,8 +4,8 @@ use Rattle.std.proofs.lemmas.List.{take-append-drop}
 use Rattle.tko_text.specs.declared.response.Response.{Response}
 use Rattle.tko_text.specs.declared.response.Response.TheVariants as response
 use Rattle.tko_text.specs.declared.response.body.Value.{Value}
-use Rattle.tko_text.specs.ResponseLines.{IsLine, IsOpenLine, Split}
-use Rattle.tko_text.specs.Responses.{Kind, Says, Suits, IsBody, IsCutList, IsCutValue, IsListing, IsResponse, IsBeginning, NoResponse, OneResponse, BeginningHasNone, block}
+use Rattle.tko_text.specs.ResponseLines.{IsOpenLine, IsSplitLine, Split}
+use Rattle.tko_text.specs.Responses.{RequestKind, Says, Suits, IsBody, IsCutList, IsCutValue, IsListing, IsResponse, IsBeginning, NoResponse, OneResponse, BeginningHasNone, block}
 use Rattle.tko_text.proofs.ListingTexts.{same_value, same_text, text_is_no_end, text_says_nothing, cut_has_no_listing, cut_list_is_no_line, listing_line}
 use Rattle.tko_text.proofs.ResponseLineLemmas.{line_is_one, open_line_has_none}
 use Rattle.tko_text.proofs.ResponseWordLemmas.{says_is_one, says_no_head}
@@ -45,8 +45,8 @@ listings_are_one a b x y (v ∷ vs) (w ∷ ws) l m e =
     (l.2 ∙ ap (λ xs. xs ++ l.1) same.0 ∙ ap (λ xs. m.0 ++ xs) rest.0 ∙ sym m.2, ap (λ u. u ∷ vs) same.1 ∙ ap (λ us. w ∷ us) rest.1)
 
 -- a request that lists values has no other response that begins with a value or is the line `END`
-no_line_lists : (kind : Kind) (values : List Value) (a b x y : List ℕ) (line : Split) (r : Response)
-    → Suits kind (response.Listed values) → Suits kind r → IsListing a values → IsLine b line → Says line r → a ++ x ≡ b ++ y → ⊥
+no_line_lists : (kind : RequestKind) (values : List Value) (a b x y : List ℕ) (line : Split) (r : Response)
+    → Suits kind (response.Listed values) → Suits kind r → IsListing a values → IsSplitLine b line → Says line r → a ++ x ≡ b ++ y → ⊥
 no_line_lists kind [] a b x y line r lists suits is first says e =
     let same = line_is_one a b is.line line x y is.is_line first e in
     let r_is : r ≡ response.Values None = says_is_one line r (response.Values None) says (subst (λ (l : Split). Says l (response.Values None)) same.1 is.says) in
@@ -56,7 +56,7 @@ no_line_lists kind (v ∷ vs) a b x y line r lists suits is first says e =
     (sym (append_assoc is.0 is.1 x) ∙ ap (λ xs. xs ++ x) (sym is.2) ∙ e)
 
 -- two openings of the same bytes that suit one kind are one
-openings_are_one : (kind : Kind) (a b x y : List ℕ) (r s : Response) → Suits kind r → Suits kind s → Opening a r → Opening b s
+openings_are_one : (kind : RequestKind) (a b x y : List ℕ) (r s : Response) → Suits kind r → Suits kind s → Opening a r → Opening b s
     → a ++ x ≡ b ++ y → (a ≡ b) × (r ≡ s)
 openings_are_one kind a b x y r s suits also (by_line f line r' is says) (by_line g other s' is' says') e =
     let same = line_is_one a b line other x y is is' e in
@@ -87,9 +87,9 @@ pub one_response : OneResponse
 unfolding IsResponse
 one_response request first second x y r s a b e =
     let kind : b.0 ≡ a.0 = same_kind request a.0 b.0 a.1 b.1 in
-    openings_are_one a.0 first second x y r s a.2 (subst (λ (k : Kind). Suits k s) kind b.2) (opening first r a.3) (opening second s b.3) e
+    openings_are_one a.0 first second x y r s a.2 (subst (λ (k : RequestKind). Suits k s) kind b.2) (opening first r a.3) (opening second s b.3) e
 
-cut_has_none : (kind : Kind) (bytes front rest : List ℕ) (r : Response) → Suits kind r → IsCutValue kind bytes → Opening front r → bytes ≡ front ++ rest → ⊥
+cut_has_none : (kind : RequestKind) (bytes front rest : List ℕ) (r : Response) → Suits kind r → IsCutValue kind bytes → Opening front r → bytes ≡ front ++ rest → ⊥
 cut_has_none kind bytes front rest r suits cut (by_line f line r' is says) e =
     let same = line_is_one cut.head front cut.line line cut.body rest cut.is_line is (sym cut.whole ∙ e) in
     let begun = cut.is_cut in
@@ -115,7 +115,7 @@ open_has_no_opening bytes front rest r (by_list f values is) e open_line =
     (e ∙ ap (λ xs. xs ++ rest) first.4 ∙ append_assoc first.0 first.2 rest)
 
 -- where a listing isn't whole, no front of the bytes is a response to the request
-cut_list_has_none : (kind : Kind) (bytes front rest : List ℕ) (r : Response) → Suits kind r → IsCutList kind bytes → Opening front r → bytes ≡ front ++ rest → ⊥
+cut_list_has_none : (kind : RequestKind) (bytes front rest : List ℕ) (r : Response) → Suits kind r → IsCutList kind bytes → Opening front r → bytes ≡ front ++ rest → ⊥
 cut_list_has_none kind bytes front rest r suits cut (by_line f line r' is says) e = cut_list_is_no_line kind bytes front rest line r cut is says e
 cut_list_has_none kind bytes front rest r suits cut (by_value head line body value is is_body) e = cut_list_is_no_value kind bytes value suits cut
 cut_list_has_none kind bytes front rest r suits cut (by_list f values is) e = cut_has_no_listing kind bytes front rest values cut is e
@@ -125,7 +125,7 @@ unfolding IsBeginning NoResponse IsResponse
 beginning_has_none request bytes begins n r le is =
     let front = opening (take n bytes) r is.3 in
     let whole = sym (take-append-drop n bytes) in
-    let suits = subst (λ (k : Kind). Suits k r) (same_kind request begins.0 is.0 begins.1 is.1) is.2 in
+    let suits = subst (λ (k : RequestKind). Suits k r) (same_kind request begins.0 is.0 begins.1 is.1) is.2 in
     elim begins.2 [
       | inl open_line ↦ open_has_no_opening bytes (take n bytes) (drop n bytes) r front whole open_line
       | inr (inl cut) ↦ cut_has_none begins.0 bytes (take n bytes) (drop n bytes) r suits cut front whole

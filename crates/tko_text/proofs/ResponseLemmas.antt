@@ -8,11 +8,11 @@ use Rattle.tko_text.specs.declared.response.Response.TheVariants as response
 use Rattle.tko_text.specs.declared.response.body.Value.{Value}
 use Rattle.tko_text.specs.declared.response.fault.ReadFault.{ReadFault}
 use Rattle.tko_text.specs.declared.response.fault.ReadFault.TheVariants as fault
-use Rattle.tko_text.specs.ResponseLines.{IsLine, Split, SplitsLine}
+use Rattle.tko_text.specs.ResponseLines.{IsSplitLine, Split, SplitsLine}
 use Rattle.tko_text.specs.declared.response.kind as code
-use Rattle.tko_text.specs.declared.response.kind.Kind.TheVariants as variant
-use Rattle.tko_text.specs.ResponseKinds.{seen}
-use Rattle.tko_text.specs.Responses.{Kind, Retrieval, Listing, Storage, Deletion, Counting, Touching, Probe, Asks, Suits, Says, IsBody, IsCutBody, IsCutValue, Spells, Begins, IsCutList, IsListing, IsResponse, IsBeginning, NoResponse, ReadsResponse, kind_of}
+use Rattle.tko_text.specs.declared.response.kind.SentKind.TheVariants as variant
+use Rattle.tko_text.specs.ResponseKinds.{kind_seen}
+use Rattle.tko_text.specs.Responses.{RequestKind, Retrieval, Listing, Storage, Deletion, Counting, Touching, Probe, Asks, Suits, Says, IsBody, IsCutBody, IsCutValue, Spells, IsCutResponse, IsCutList, IsListing, IsResponse, IsBeginning, NoResponse, ReadsResponse, request_kind}
 use Rattle.tko_text.specs.ResponseFaults.{NoneOf, ReadsOf, LineFault, Misses, NoBody, SplitsBody, BodyFault, line_response, value_line}
 use Rattle.tko_text.proofs.ResponseLineLemmas.{line_is_one, open_line_has_none, overlong_has_none}
 use Rattle.tko_text.proofs.ListingTexts.{listing_line, overlong_isnt_cut}
@@ -20,8 +20,8 @@ use Rattle.tko_text.proofs.ResponseWordLemmas.{response_says, says_response, say
 
 -- a response begins with a line, which is all of it, or goes on with a value's body
 pub data Opening : List ℕ → Response → Type 0 where
-  by_line : (front : List ℕ) (line : Split) (response : Response) → IsLine front line → Says line response → Opening front response
-  by_value : (head : List ℕ) (line : Split) (body : List ℕ) (value : Value) → IsLine head line → IsBody line body value
+  by_line : (front : List ℕ) (line : Split) (response : Response) → IsSplitLine front line → Says line response → Opening front response
+  by_value : (head : List ℕ) (line : Split) (body : List ℕ) (value : Value) → IsSplitLine head line → IsBody line body value
       → Opening (head ++ body) (response.Values (Some value))
   by_list : (front : List ℕ) (values : List Value) → IsListing front values → Opening front (response.Listed values)
 
@@ -44,7 +44,7 @@ opening front (response.ClientError text) spells = by_line front spells.line (re
 opening front (response.ServerError text) spells = by_line front spells.line (response.ServerError text) spells.is_line spells.says
 
 -- a line that is a response spells it
-pub spells_line : (front : List ℕ) (line : Split) (r : Response) → IsLine front line → Says line r → Spells front r
+pub spells_line : (front : List ℕ) (line : Split) (r : Response) → IsSplitLine front line → Says line r → Spells front r
 spells_line front line (response.Values (Some value)) is says = absurd says
 spells_line front line (response.Values None) is says = record { line = line; is_line = is; says = says }
 spells_line front line (response.Listed values) is says = absurd says
@@ -61,7 +61,7 @@ spells_line front line (response.ClientError text) is says = record { line = lin
 spells_line front line (response.ServerError text) is says = record { line = line; is_line = is; says = says }
 
 -- a kind has a value exactly where it asked for it
-asks_value : (kind : Kind) (value : Value) → Suits kind (response.Values (Some value)) → Asks kind value.key value.unique
+asks_value : (kind : RequestKind) (value : Value) → Suits kind (response.Values (Some value)) → Asks kind value.key value.unique
 asks_value (Retrieval key unique) value suits = suits
 asks_value (Listing keys unique) value suits = suits
 asks_value Storage value suits = suits
@@ -70,7 +70,7 @@ asks_value Counting value suits = suits
 asks_value Touching value suits = suits
 asks_value Probe value suits = suits
 
-suits_value : (kind : Kind) (value : Value) → Asks kind value.key value.unique → Suits kind (response.Values (Some value))
+suits_value : (kind : RequestKind) (value : Value) → Asks kind value.key value.unique → Suits kind (response.Values (Some value))
 suits_value (Retrieval key unique) value asks = asks
 suits_value (Listing keys unique) value asks = asks
 suits_value Storage value asks = asks
@@ -80,11 +80,11 @@ suits_value Touching value asks = asks
 suits_value Probe value asks = asks
 
 -- a request of this kind has one key at most
-abbrev pub IsSingle : Kind → Type 0
+abbrev pub IsSingle : RequestKind → Type 0
 IsSingle (Listing keys unique) = ⊥
 IsSingle _ = Unit {0}
 
-pub code_single : (kind : code.Kind.Kind) → IsSingle (seen kind)
+pub code_single : (kind : code.SentKind.SentKind) → IsSingle (kind_seen kind)
 code_single (variant.Retrieval key unique) = tt
 code_single variant.Storage = tt
 code_single variant.Deletion = tt
@@ -92,7 +92,7 @@ code_single variant.Counting = tt
 code_single variant.Touching = tt
 code_single variant.Probe = tt
 
-pub none_listed : (kind : Kind) (values : List Value) → IsSingle kind → Suits kind (response.Listed values) → ⊥
+pub none_listed : (kind : RequestKind) (values : List Value) → IsSingle kind → Suits kind (response.Listed values) → ⊥
 none_listed (Retrieval key unique) values single suits = suits
 none_listed (Listing keys unique) values single suits = single
 none_listed Storage values single suits = suits
@@ -101,7 +101,7 @@ none_listed Counting values single suits = suits
 none_listed Touching values single suits = suits
 none_listed Probe values single suits = suits
 
-none_cut : (kind : Kind) (bytes : List ℕ) → IsSingle kind → IsCutList kind bytes → ⊥
+none_cut : (kind : RequestKind) (bytes : List ℕ) → IsSingle kind → IsCutList kind bytes → ⊥
 none_cut (Retrieval key unique) bytes single cut = cut
 none_cut (Listing keys unique) bytes single cut = single
 none_cut Storage bytes single cut = cut
@@ -111,7 +111,7 @@ none_cut Touching bytes single cut = cut
 none_cut Probe bytes single cut = cut
 
 -- a request that lists values has no single one
-pub listed_alone : (kind : Kind) (values : List Value) (found : Option Value) → Suits kind (response.Listed values)
+pub listed_alone : (kind : RequestKind) (values : List Value) (found : Option Value) → Suits kind (response.Listed values)
     → Suits kind (response.Values found) → ⊥
 listed_alone (Retrieval key unique) values found lists suits = lists
 listed_alone (Listing keys unique) values None lists suits = suits
@@ -122,7 +122,7 @@ listed_alone Counting values found lists suits = lists
 listed_alone Touching values found lists suits = lists
 listed_alone Probe values found lists suits = lists
 
-pub listed_uncut : (kind : Kind) (values : List Value) (bytes : List ℕ) → Suits kind (response.Listed values)
+pub listed_uncut : (kind : RequestKind) (values : List Value) (bytes : List ℕ) → Suits kind (response.Listed values)
     → IsCutValue kind bytes → ⊥
 listed_uncut (Retrieval key unique) values bytes lists cut = lists
 listed_uncut (Listing keys unique) values bytes lists cut = cut.is_cut.asked
@@ -132,7 +132,7 @@ listed_uncut Counting values bytes lists cut = lists
 listed_uncut Touching values bytes lists cut = lists
 listed_uncut Probe values bytes lists cut = lists
 
-pub cut_list_is_no_value : (kind : Kind) (bytes : List ℕ) (value : Value) → Suits kind (response.Values (Some value))
+pub cut_list_is_no_value : (kind : RequestKind) (bytes : List ℕ) (value : Value) → Suits kind (response.Values (Some value))
     → IsCutList kind bytes → ⊥
 cut_list_is_no_value (Retrieval key unique) bytes value suits cut = cut
 cut_list_is_no_value (Listing keys unique) bytes value suits cut = suits
@@ -147,14 +147,14 @@ pub taken : (bytes front rest : List ℕ) → bytes ≡ front ++ rest → take (
 taken bytes front rest e = ap (take (length bytes - length rest)) e ∙ take_at front rest (length bytes - length rest) (omega (arith, ap length e, length-append front rest))
 
 -- no front of the bytes is a response, where no opening is
-pub none_by_opening : (kind : Kind) (bytes : List ℕ)
+pub none_by_opening : (kind : RequestKind) (bytes : List ℕ)
     → ((front rest : List ℕ) (r : Response) → Opening front r → Suits kind r → bytes ≡ front ++ rest → ⊥) → NoneOf kind bytes
 none_by_opening kind bytes none n r le is =
     none (take n bytes) (drop n bytes) r (opening (take n bytes) r is.1) is.0 (sym (take-append-drop n bytes))
 
-module _ (kind : Kind) (bytes : List ℕ) where
+module _ (kind : RequestKind) (bytes : List ℕ) where
   -- where no front is a line, none is a response
-  no_line : ((a : List ℕ) (s : Split) (x : List ℕ) → IsLine a s → bytes ≡ a ++ x → ⊥) → NoneOf kind bytes
+  no_line : ((a : List ℕ) (s : Split) (x : List ℕ) → IsSplitLine a s → bytes ≡ a ++ x → ⊥) → NoneOf kind bytes
   no_line none = none_by_opening kind bytes no_opening where
     no_opening : (front rest : List ℕ) (r : Response) → Opening front r → Suits kind r → bytes ≡ front ++ rest → ⊥
     no_opening front rest r (by_line front' line r' is says) suits e = none front line rest is e
@@ -175,7 +175,7 @@ module _ (kind : Kind) (bytes : List ℕ) where
   )
   line_fault fault.Memory none = absurd none
 
-module _ (kind : Kind) (single : IsSingle kind) (bytes : List ℕ) (line : Split) (rest : List ℕ) (split : SplitsLine bytes line rest) where
+module _ (kind : RequestKind) (single : IsSingle kind) (bytes : List ℕ) (line : Split) (rest : List ℕ) (split : SplitsLine bytes line rest) where
   -- no response that the kind can have is the line, and none goes on from it
   none_of_line : ((r : Response) → Says line r → Suits kind r → ⊥) → NoBody kind line rest → NoneOf kind bytes
   none_of_line unsaid none = none_by_opening kind bytes closed where
@@ -230,7 +230,7 @@ module _ (kind : Kind) (single : IsSingle kind) (bytes : List ℕ) (line : Split
     (suits, subst (λ (xs : List ℕ). Spells xs r) (sym (taken bytes split.0 rest split.2)) (spells_line split.0 line r split.1 (response_says line r found))),
   )
 
-module _ (kind : Kind) (single : IsSingle kind) (bytes arguments rest : List ℕ) (split : SplitsLine bytes (value_line arguments) rest) where
+module _ (kind : RequestKind) (single : IsSingle kind) (bytes arguments rest : List ℕ) (split : SplitsLine bytes (value_line arguments) rest) where
   pub value_fault : (f : ReadFault) → BodyFault f kind (value_line arguments) rest → ReadsOf kind bytes (Err f)
   value_fault f wrong = body_fault kind single bytes (value_line arguments) rest split f (λ r says. λ _. value_says_nothing arguments r says) wrong
 
@@ -250,17 +250,17 @@ module _ (kind : Kind) (single : IsSingle kind) (bytes arguments rest : List ℕ
 pub value_split : (bytes word arguments rest : List ℕ) → word ≡ codes "VALUE" → SplitsLine bytes (record { word = word; rest = arguments }) rest → SplitsLine bytes (value_line arguments) rest
 value_split bytes word arguments rest same split = subst (λ (w : List ℕ). SplitsLine bytes (record { word = w; rest = arguments }) rest) same split
 
-pub same_kind : (request : Request) (kind other : Kind) → kind_of request ≡ Some kind → kind_of request ≡ Some other → other ≡ kind
+pub same_kind : (request : Request) (kind other : RequestKind) → request_kind request ≡ Some kind → request_kind request ≡ Some other → other ≡ kind
 same_kind request kind other a b = let e : Some other ≡ Some kind = sym b ∙ a in cc
 
-module _ (request : Request) (kind : Kind) (bytes : List ℕ) (of : kind_of request ≡ Some kind) where
+module _ (request : Request) (kind : RequestKind) (bytes : List ℕ) (of : request_kind request ≡ Some kind) where
   none_asked : NoneOf kind bytes → NoResponse request bytes
   unfolding NoResponse IsResponse
-  none_asked none n r le is = none n r le (subst (λ (k : Kind). Suits k r) (same_kind request kind is.0 of is.1) is.2, is.3)
+  none_asked none n r le is = none n r le (subst (λ (k : RequestKind). Suits k r) (same_kind request kind is.0 of is.1) is.2, is.3)
 
-  none_begun : ¬ (Begins kind bytes) → ¬ (IsBeginning request bytes)
+  none_begun : ¬ (IsCutResponse kind bytes) → ¬ (IsBeginning request bytes)
   unfolding IsBeginning
-  none_begun none begins = none (subst (λ (k : Kind). Begins k bytes) (same_kind request kind begins.0 of begins.1) begins.2)
+  none_begun none begins = none (subst (λ (k : RequestKind). IsCutResponse k bytes) (same_kind request kind begins.0 of begins.1) begins.2)
 
   -- what is read for a request is what is read for its kind
   pub reads_kind : (result : Result (Response × ℕ) ReadFault) → ReadsOf kind bytes result → ReadsResponse request bytes result
@@ -271,8 +271,8 @@ module _ (request : Request) (kind : Kind) (bytes : List ℕ) (of : kind_of requ
   reads_kind (Err fault.Memory) is = tt
 
 -- a request that is never sent has no response
-pub reads_unsent : (request : Request) (bytes : List ℕ) → kind_of request ≡ None → ReadsResponse request bytes (Err fault.Unreadable)
+pub reads_unsent : (request : Request) (bytes : List ℕ) → request_kind request ≡ None → ReadsResponse request bytes (Err fault.Unreadable)
 unfolding ReadsResponse IsResponse IsBeginning NoResponse
 reads_unsent request bytes none =
-    let nothing : (kind : Kind) → kind_of request ≡ Some kind → ⊥ = λ kind is. let e : Some kind ≡ None = sym is ∙ none in cc in
+    let nothing : (kind : RequestKind) → request_kind request ≡ Some kind → ⊥ = λ kind is. let e : Some kind ≡ None = sym is ∙ none in cc in
     (λ begins. nothing begins.0 begins.1, λ n r le is. nothing is.0 is.1)

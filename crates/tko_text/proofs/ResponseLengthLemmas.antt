@@ -7,8 +7,8 @@ use Rattle.tko_text.specs.declared.request.Request.{Request}
 use Rattle.tko_text.specs.declared.response.Response.{Response}
 use Rattle.tko_text.specs.declared.response.body.Value.{Value}
 use Rattle.tko_text.specs.ResponseLines.{Split, SplitsLine}
-use Rattle.tko_text.specs.Responses.{Kind, IsBody, IsHead, IsListing, IsResponse, NoResponse, Says, Suits, block, kind_of}
-use Rattle.tko_text.specs.ResponseFaults.{IsOf, value_line}
+use Rattle.tko_text.specs.Responses.{RequestKind, IsBody, IsHead, IsListing, IsResponse, NoResponse, Says, Suits, block, request_kind}
+use Rattle.tko_text.specs.ResponseFaults.{IsResponseOf, value_line}
 use Rattle.tko_text.specs.ResponseLengths.{IsLeastLength, IsLeastOf}
 use Rattle.tko_text.proofs.ResponseBodyLemmas.{head_is_one}
 use Rattle.tko_text.proofs.ResponseLineLemmas.{line_is_one}
@@ -86,18 +86,18 @@ pub least_none : (request : Request) (bytes : List ℕ) → IsLeastLength reques
 unfolding IsLeastLength
 least_none request bytes more n r le of = omega arith
 
-pub least_of_none : (kind : Kind) (bytes : List ℕ) → IsLeastOf kind bytes 0
+pub least_of_none : (kind : RequestKind) (bytes : List ℕ) → IsLeastOf kind bytes 0
 unfolding IsLeastOf
 least_of_none kind bytes more n r le of = omega arith
 
 -- a request of a kind has the least length of its kind
-pub least_kind : (request : Request) (kind : Kind) (bytes : List ℕ) (least : ℕ) → kind_of request ≡ Some kind
+pub least_kind : (request : Request) (kind : RequestKind) (bytes : List ℕ) (least : ℕ) → request_kind request ≡ Some kind
     → IsLeastOf kind bytes least → IsLeastLength request bytes least
 unfolding IsLeastLength IsLeastOf IsResponse
 least_kind request kind bytes least of is more n r le found =
-    is more n r le (subst (λ (k : Kind). IsOf k (take n (bytes ++ more)) r) (same_kind request kind found.0 of found.1) (found.2, found.3))
+    is more n r le (subst (λ (k : RequestKind). IsResponseOf k (take n (bytes ++ more)) r) (same_kind request kind found.0 of found.1) (found.2, found.3))
 
-module _ (kind : Kind) (single : IsSingle kind) (bytes arguments rest key : List ℕ) (flags size : ℕ) (cas : _) (split : SplitsLine bytes (value_line arguments) rest)
+module _ (kind : RequestKind) (single : IsSingle kind) (bytes arguments rest key : List ℕ) (flags size : ℕ) (cas : _) (split : SplitsLine bytes (value_line arguments) rest)
     (head : IsHead (value_line arguments) key flags size cas) where
   long_opening : (front more : List ℕ) (r : Response) → Suits kind r → Opening front r → (later : List ℕ) → bytes ++ more ≡ front ++ later
       → length bytes - length rest + size + 3 ≤ length front

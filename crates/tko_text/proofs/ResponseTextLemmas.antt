@@ -4,7 +4,7 @@ use Rattle.std.specs.List.{AllByRecursion}
 use Rattle.std.proofs.lemmas.Bool.{cases_Bool, cond-true, cond-false}
 use Rattle.std.proofs.lemmas.List.Elements.{recursion_from_All, All-from_recursion}
 use Rattle.tko_bytes.specs.Words.{unspaced, after_word}
-use Rattle.tko_text.specs.ResponseLines.{IsText, split_of}
+use Rattle.tko_text.specs.ResponseLines.{IsLineText, split_of}
 
 unspaced_text : (xs : List ℕ) → AllByRecursion (λ b. b ≢ 10) xs → AllByRecursion (λ b. b ≢ 10) (unspaced xs)
 unspaced_text [] text = tt
@@ -20,7 +20,7 @@ behind_text (b ∷ bs) text = elim (cases_Bool (eqb b 32)) [
   | inr e ↦ subst (AllByRecursion (λ k. k ≢ 10)) (sym (cond-false _ _ _ e)) (behind_text bs text.1)
 ]
 
-pub rest_is_text : (line : List ℕ) → IsText line → IsText (split_of line).rest
+pub rest_is_text : (line : List ℕ) → IsLineText line → IsLineText (split_of line).rest
 rest_is_text line text =
     All-from_recursion (λ b. b ≢ 10) _
     (behind_text (unspaced line) (unspaced_text line (recursion_from_All (λ b. b ≢ 10) line text)))

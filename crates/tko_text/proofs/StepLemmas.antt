@@ -10,8 +10,8 @@ use Rattle.tko_text.specs.declared.line.ParsedLine.{ParsedLine}
 use Rattle.tko_text.specs.declared.line.ParsedLine.TheVariants as line
 use Rattle.tko_text.specs.declared.pending.Pending.{Pending}
 use Rattle.tko_text.specs.declared.request.Request.{Request}
-use Rattle.tko_text.specs.declared.state.State.{State}
-use Rattle.tko_text.specs.declared.state.State.TheVariants as state
+use Rattle.tko_text.specs.declared.state.ReaderState.{ReaderState}
+use Rattle.tko_text.specs.declared.state.ReaderState.TheVariants as state
 use Rattle.tko_text.specs.Commands.{After, Next, Pass, PassLine, Never, Asks, AwaitsData, Refused, parsed}
 use Rattle.tko_text.specs.DataEnds.{EndsData}
 use Rattle.tko_text.specs.Lines.{IsEndedAt}
@@ -45,7 +45,7 @@ line_is : (bytes held : List ℕ) (len : ℕ) (found : ParsedLine) → held ≡ 
     → parsed (content (take len bytes)) ≡ meaning found
 line_is bytes held len found held_is is = ap parsed (sym held_is) ∙ is
 
-pub read_asks : (bytes held left : List ℕ) (len : ℕ) (found : ParsedLine) (asked : Request) (now : State)
+pub read_asks : (bytes held left : List ℕ) (len : ℕ) (found : ParsedLine) (asked : Request) (now : ReaderState)
     → IsEndedAt bytes len → held ≡ content (take len bytes) → parsed held ≡ meaning found → found ≡ line.Asks asked
     → now ≡ state.Line → left ≡ drop (len + 1) bytes
     → Steps (at bytes) (Some (item.Request asked)) (reading_of now left)
@@ -102,7 +102,7 @@ module _ (bytes : List ℕ) (len size : ℕ) (asked : List ℕ → Request) (end
   )
 
 -- the reading of a state that awaits a line
-pub reading_line : (now : State) (left : List ℕ) → now ≡ state.Line → at left ≡ reading_of now left
+pub reading_line : (now : ReaderState) (left : List ℕ) → now ≡ state.Line → at left ≡ reading_of now left
 reading_line now left awaits = ap (λ s. reading_of s left) (sym awaits)
 
 -- what is left after a line and more
@@ -161,14 +161,14 @@ unfolding NeedsMore Emits
 needs_more from other emitted to (text, left, after, is, decides, goes) = other (ap (λ (r : Reading). r.after) is)
 
 -- where bytes are skipped, or nothing is read, no item comes
-pub skips_bytes : (from : Reading) (now : State) (u : List ℕ) (n : ℕ) → reading_of now u ≡ from → now ≡ state.Skip n → NeedsMore from
+pub skips_bytes : (from : Reading) (now : ReaderState) (u : List ℕ) (n : ℕ) → reading_of now u ≡ from → now ≡ state.Skip n → NeedsMore from
 skips_bytes from now u n view is =
     needs_more from (λ next. let e : Pass n ≡ Next = sym (ap (λ s. (reading_of s u).after) is) ∙ ap (λ (r : Reading). r.after) view ∙ next in cc)
 
-pub skips_line : (from : Reading) (now : State) (u : List ℕ) → reading_of now u ≡ from → now ≡ state.SkipLine → NeedsMore from
+pub skips_line : (from : Reading) (now : ReaderState) (u : List ℕ) → reading_of now u ≡ from → now ≡ state.SkipLine → NeedsMore from
 skips_line from now u view is =
     needs_more from (λ next. let e : PassLine ≡ Next = sym (ap (λ s. (reading_of s u).after) is) ∙ ap (λ (r : Reading). r.after) view ∙ next in cc)
 
-pub reads_nothing : (from : Reading) (now : State) (u : List ℕ) → reading_of now u ≡ from → now ≡ state.Never → NeedsMore from
+pub reads_nothing : (from : Reading) (now : ReaderState) (u : List ℕ) → reading_of now u ≡ from → now ≡ state.Never → NeedsMore from
 reads_nothing from now u view is =
     needs_more from (λ next. let e : Never ≡ Next = sym (ap (λ s. (reading_of s u).after) is) ∙ ap (λ (r : Reading). r.after) view ∙ next in cc)

@@ -54,13 +54,14 @@ commands =
     ∷ []
 
 -- a word in a table
-abbrev pub form_in : List ℕ → List (List ℕ × Form) → Option Form
-form_in word [] = None
-form_in word (entry ∷ table) = if bytes_eq word entry.0 then Some entry.1 else form_in word table
+abbrev pub form_in_table : List ℕ → List (List ℕ × Form) → Option Form
+form_in_table word [] = None
+form_in_table word (entry ∷ table) =
+    if bytes_eq word entry.0 then Some entry.1 else form_in_table word table
 
 -- the form of a command word
 unfoldable pub form_of : List ℕ → Option Form
-form_of word = form_in word commands
+form_of word = form_in_table word commands
 
 abbrev pub bad_line : ParsedLine
 bad_line = Refused BadLine Next

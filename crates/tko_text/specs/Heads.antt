@@ -3,7 +3,7 @@ use Rattle.std.specs.Prelude.{ℕ, ◌+◌, ◌≤◌, Bool, List, drop, length,
 use Rattle.tko_text.specs.declared.response.Response.TheVariants.{Values}
 use Rattle.tko_text.specs.declared.response.body.Value.{Value}
 use Rattle.tko_text.specs.declared.response.reader.Head.{Head}
-use Rattle.tko_text.specs.declared.response.reader.Place.{Place}
+use Rattle.tko_text.specs.declared.response.reader.ValueOffsets.{ValueOffsets}
 use Rattle.tko_text.specs.ResponseFaults.{ReadsOf}
 use Rattle.tko_text.specs.ResponseLines.{IsData}
 use Rattle.tko_text.specs.Responses.{Retrieval}
@@ -13,11 +13,12 @@ value_of key head bytes =
     record { key = key; flags = head.flags; «data» = bytes; unique = head.unique }
 
 -- the data at a place
-abbrev pub data_at : Place → List ℕ → List ℕ
+abbrev pub data_at : ValueOffsets → List ℕ → List ℕ
 data_at place bytes = take place.head.size (drop place.begin bytes)
 
 -- the bytes begin with the value that is there
-pub record IsPlaced (key : List ℕ) (unique : Bool) (bytes : List ℕ) (place : Place) : Type 0 where
+pub record IsPlaced (key : List ℕ) (unique : Bool) (bytes : List ℕ) (place : ValueOffsets)
+    : Type 0 where
   pub within : place.begin + place.head.size ≤ length bytes
   pub few : IsData (data_at place bytes)
   pub reads : ReadsOf (Retrieval key unique) bytes

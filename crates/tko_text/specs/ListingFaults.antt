@@ -9,8 +9,8 @@ use Rattle.tko_text.specs.declared.response.place.ValuePlace.{ValuePlace}
 use Rattle.tko_text.specs.declared.response.reader.Head.{Head}
 use Rattle.tko_text.specs.Heads.{value_of}
 use Rattle.tko_text.specs.Places.{IsPlaceIn, values_in}
-use Rattle.tko_text.specs.ResponseLines.{IsLine, IsOpenLine, Split, SplitsLine}
-use Rattle.tko_text.specs.Responses.{AreAwaited, IsAwaited, IsCutListing, IsHead, IsListing, IsValueText, Says}
+use Rattle.tko_text.specs.ResponseLines.{IsOpenLine, IsSplitLine, Split, SplitsLine}
+use Rattle.tko_text.specs.Responses.{AreAwaited, IsCutListing, IsHead, IsListing, IsValueAwaited, IsValueText, Says}
 
 -- a response that any request can have
 abbrev pub IsError : Response → Type 0
@@ -33,7 +33,7 @@ abbrev pub ErrorFault : ReadFault → List ℕ → Type 0
 ErrorFault fault.Short bytes = IsOpenLine bytes
 ErrorFault fault.Unreadable bytes =
     (first rest : List ℕ) (line : Split) (response : Response) → bytes ≡ first ++ rest
-    → IsLine first line → Says line response → IsError response → ⊥
+    → IsSplitLine first line → Says line response → IsError response → ⊥
 ErrorFault fault.Memory bytes = Unit {0}
 
 -- no front of the bytes, which follow values of the keys `had`, is the rest of a listing
@@ -59,7 +59,7 @@ IsOtherLine bytes =
 abbrev pub NotAwaited : List (List ℕ) → Bool → List (List ℕ) → Split → Type 0
 NotAwaited keys unique had line =
     (key : List ℕ) (flags size : ℕ) (cas : Option ℕ) → IsHead line key flags size cas
-    → IsAwaited keys unique had key cas → ⊥
+    → IsValueAwaited keys unique had key cas → ⊥
 
 -- the bytes are a value of this key and data that may follow values of the keys `had`, and the rest
 pub record IsNextText (keys : List (List ℕ)) (unique : Bool) (had : List (List ℕ))
@@ -68,7 +68,7 @@ pub record IsNextText (keys : List (List ℕ)) (unique : Bool) (had : List (List
   pub whole : bytes ≡ first ++ rest
   pub text : IsValueText first (value_of key head stored)
   pub few : length stored ≡ head.size
-  pub awaited : IsAwaited keys unique had key head.unique
+  pub awaited : IsValueAwaited keys unique had key head.unique
 
 -- the first `len` bytes are the texts of the values at these places, which were asked for, and the
 -- line `END`

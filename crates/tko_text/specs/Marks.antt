@@ -4,8 +4,8 @@ use Rattle.std.specs.List.{fold}
 use Rattle.tko_text.specs.declared.response.place.ValuePlace.{ValuePlace}
 
 -- how many of its last bytes a key's mark is made of
-abbrev pub marked : ℕ
-marked = 16
+abbrev pub marked_bytes : ℕ
+marked_bytes = 16
 
 -- a mark with one more byte, as in FNV-1a
 abbrev pub mark_step : ℕ → ℕ → ℕ
@@ -13,9 +13,10 @@ mark_step so_far byte = (bit_xor so_far byte * 16777619) % 2 ^ 32
 
 -- the mark of a key
 unfoldable pub mark : List ℕ → ℕ
-mark key = fold mark_step 0 (drop (length key - marked) key)
+mark key = fold mark_step 0 (drop (length key - marked_bytes) key)
 
 -- the flag of each key is set
 pub record AreSeen (seen : List Bool) (places : List ValuePlace) : Type 0 where
   pub some : 0 < length seen
-  pub each : All (λ (place : ValuePlace). slice_index_or seen (mark place.key % length seen) false ≡ true) places
+  pub each : All (λ (place : ValuePlace). slice_index_or seen (mark place.key % length seen) false
+      ≡ true) places

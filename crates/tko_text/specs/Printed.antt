@@ -9,7 +9,7 @@ use Rattle.tko_text.specs.declared.request.Request.{Request}
 use Rattle.tko_text.specs.declared.request.Request.TheVariants.{Get, Gets, Store, Cas, Delete, Incr, Decr, Touch}
 use Rattle.tko_text.specs.Keys.{IsKey}
 use Rattle.tko_text.specs.Limits.{data_limit, expiry_limit, flags_limit, line_limit, negative_expiry_limit, number_limit}
-use Rattle.tko_text.specs.Reading.{Emits, fed, start}
+use Rattle.tko_text.specs.Reading.{Emits, fed, reading_start}
 use Rattle.tko_text.specs.Requests.{printed_words, request_text}
 
 -- one key or more
@@ -49,4 +49,5 @@ abbrev pub ReadAgain : Type 0
 ReadAgain =
     (request : Request) (more : List ℕ) → IsRequest request
     → length (printed_line request) ≤ line_limit
-    → Emits (fed start (request_text request ++ more)) (item.Request request) (fed start more)
+    → Emits (fed reading_start (request_text request ++ more)) (item.Request request)
+    (fed reading_start more)

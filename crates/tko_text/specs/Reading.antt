@@ -59,8 +59,8 @@ passed PassLine (b ∷ bytes) =
 passed Never bytes = record { after = Never; unread = [] }
 
 -- before any byte
-abbrev pub start : Reading
-start = record { after = Next; unread = [] }
+abbrev pub reading_start : Reading
+reading_start = record { after = Next; unread = [] }
 
 -- once further bytes have come
 abbrev pub fed : Reading → List ℕ → Reading
@@ -88,7 +88,7 @@ pub record Gives (from : Reading) (items : List Item) (to : Reading) : Type 0 wh
 
 -- these bytes from the start are these items, and what is left is no further one yet
 pub record Reads (bytes : List ℕ) (items : List Item) (left : Reading) : Type 0 where
-  pub gives : Gives (fed start bytes) items left
+  pub gives : Gives (fed reading_start bytes) items left
   pub open_end : NeedsMore left
 
 -- further bytes change no item that came before them, so it does not matter how the input is cut

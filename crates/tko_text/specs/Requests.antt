@@ -20,8 +20,8 @@ verb_word Append = codes "append"
 verb_word Prepend = codes "prepend"
 
 -- the line that is printed of words
-abbrev pub line_of : List (List ℕ) → List ℕ
-line_of words = join_with_byte space words ++ crlf
+abbrev pub line_of_words : List (List ℕ) → List ℕ
+line_of_words words = join_with_byte space words ++ crlf
 
 -- the last word of a request that asks for no reply
 abbrev pub noreply_words : Bool → List (List ℕ)
@@ -61,7 +61,7 @@ printed_data _ = []
 
 -- the printed form: single spaces, no leading zeros, CR LF
 unfoldable pub request_text : Request → List ℕ
-request_text request = line_of (printed_words request) ++ printed_data request
+request_text request = line_of_words (printed_words request) ++ printed_data request
 
 -- the reply to a fault
 unfoldable pub fault_text : TextFault → List ℕ
@@ -89,7 +89,7 @@ unique_words (Some unique) = decimal unique ∷ []
 -- the printed form of a storage request, by its command word
 abbrev pub stored_text : List ℕ → Entry → Option ℕ → Bool → List ℕ
 stored_text word entry unique noreply =
-    line_of (word ∷ entry_words entry ++ unique_words unique ++ noreply_words noreply)
+    line_of_words (word ∷ entry_words entry ++ unique_words unique ++ noreply_words noreply)
     ++ entry.value ++ crlf
 
 -- the same, by what follows the number of bytes in the line

@@ -11,23 +11,23 @@ use Rattle.tko_text.specs.declared.response.fault.ReadFault.{ReadFault}
 use Rattle.tko_text.specs.declared.response.fault.ReadFault.TheVariants as fault
 use Rattle.tko_text.specs.Limits.{number_limit}
 use Rattle.tko_text.specs.ResponseLines.{IsOpenLine, IsOverlong, Split, SplitsLine}
-use Rattle.tko_text.specs.Responses.{Kind, Asks, Begins, IsAlone, IsAnswerLine, IsHead, IsBody, IsCutBody, IsCutData, Spells, Suits}
+use Rattle.tko_text.specs.Responses.{RequestKind, Asks, IsCutResponse, IsOneWord, IsAnswerLine, IsHead, IsBody, IsCutBody, IsCutData, Spells, Suits}
 
 -- the bytes, all of them, are this response to a request of the kind
-abbrev pub IsOf : Kind → List ℕ → Response → Type 0
-IsOf kind bytes response = Suits kind response × Spells bytes response
+abbrev pub IsResponseOf : RequestKind → List ℕ → Response → Type 0
+IsResponseOf kind bytes response = Suits kind response × Spells bytes response
 
 -- no front of the bytes is a response to a request of the kind
-abbrev pub NoneOf : Kind → List ℕ → Type 0
+abbrev pub NoneOf : RequestKind → List ℕ → Type 0
 NoneOf kind bytes =
-    (n : ℕ) (response : Response) → n ≤ length bytes → IsOf kind (take n bytes) response → ⊥
+    (n : ℕ) (response : Response) → n ≤ length bytes → IsResponseOf kind (take n bytes) response → ⊥
 
 -- what is read of the bytes for a request of the kind
-abbrev pub ReadsOf : Kind → List ℕ → Result (Response × ℕ) ReadFault → Type 0
+abbrev pub ReadsOf : RequestKind → List ℕ → Result (Response × ℕ) ReadFault → Type 0
 ReadsOf kind bytes (Ok found) =
-    (found.1 ≤ length bytes) × IsOf kind (take found.1 bytes) found.0
-ReadsOf kind bytes (Err fault.Short) = Begins kind bytes × NoneOf kind bytes
-ReadsOf kind bytes (Err fault.Unreadable) = ¬ (Begins kind bytes) × NoneOf kind bytes
+    (found.1 ≤ length bytes) × IsResponseOf kind (take found.1 bytes) found.0
+ReadsOf kind bytes (Err fault.Short) = IsCutResponse kind bytes × NoneOf kind bytes
+ReadsOf kind bytes (Err fault.Unreadable) = ¬ (IsCutResponse kind bytes) × NoneOf kind bytes
 ReadsOf kind bytes (Err fault.Memory) = Unit {0}
 
 -- there is no first line yet, or there will never be one
@@ -95,7 +95,7 @@ EndFault fault.Short bytes = IsOpenLine bytes
 EndFault fault.Unreadable bytes =
     IsOverlong bytes
     ⊎ ((line : Split) × (rest : List ℕ) × SplitsLine bytes line rest
-    × ¬ (IsAlone (codes "END") line))
+    × ¬ (IsOneWord (codes "END") line))
 EndFault fault.Memory bytes = ⊥
 
 -- the bytes are the line `END` and the rest
@@ -104,19 +104,19 @@ SplitsEnd bytes rest =
     (last : List ℕ) × IsAnswerLine last (Values None) × (bytes ≡ last ++ rest)
 
 -- no front of the bytes completes a value that the line announces and that was asked for
-abbrev pub NoBody : Kind → Split → List ℕ → Type 0
+abbrev pub NoBody : RequestKind → Split → List ℕ → Type 0
 NoBody kind line bytes =
     (body rest : List ℕ) (found : Value) → bytes ≡ body ++ rest → IsBody line body found
     → Asks kind found.key found.unique → ⊥
 
 -- the line, and the bytes up to the rest, are this value
-abbrev pub SplitsBody : Kind → Split → List ℕ → Value → List ℕ → Type 0
+abbrev pub SplitsBody : RequestKind → Split → List ℕ → Value → List ℕ → Type 0
 SplitsBody kind line bytes value rest =
     (body : List ℕ) × (bytes ≡ body ++ rest) × IsBody line body value
     × Asks kind value.key value.unique
 
 -- the value isn't whole, or there is none
-abbrev pub BodyFault : ReadFault → Kind → Split → List ℕ → Type 0
+abbrev pub BodyFault : ReadFault → RequestKind → Split → List ℕ → Type 0
 BodyFault fault.Short kind line bytes = IsCutBody kind line bytes × NoBody kind line bytes
 BodyFault fault.Unreadable kind line bytes =
     ¬ (IsCutBody kind line bytes) × NoBody kind line bytes

@@ -2,8 +2,8 @@
 use Rattle.std.specs.Prelude.{◌≤◌, ℕ, List, ◌++◌, length, take}
 use Rattle.tko_text.specs.declared.request.Request.{Request}
 use Rattle.tko_text.specs.declared.response.Response.{Response}
-use Rattle.tko_text.specs.ResponseFaults.{IsOf}
-use Rattle.tko_text.specs.Responses.{IsResponse, Kind}
+use Rattle.tko_text.specs.ResponseFaults.{IsResponseOf}
+use Rattle.tko_text.specs.Responses.{IsResponse, RequestKind}
 
 -- no response to the request that begins with these bytes, however they go on, is shorter
 unfoldable pub IsLeastLength : Request → List ℕ → ℕ → Type 0
@@ -12,7 +12,7 @@ IsLeastLength request bytes least =
     → IsResponse request (take n (bytes ++ more)) response → least ≤ n
 
 -- the same of a request of the kind
-unfoldable pub IsLeastOf : Kind → List ℕ → ℕ → Type 0
+unfoldable pub IsLeastOf : RequestKind → List ℕ → ℕ → Type 0
 IsLeastOf kind bytes least =
     (more : List ℕ) (n : ℕ) (response : Response) → n ≤ length (bytes ++ more)
-    → IsOf kind (take n (bytes ++ more)) response → least ≤ n
+    → IsResponseOf kind (take n (bytes ++ more)) response → least ≤ n

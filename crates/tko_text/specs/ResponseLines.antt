@@ -6,8 +6,8 @@ use Rattle.tko_bytes.specs.Words.{after_word, front_word, unspaced}
 use Rattle.tko_text.specs.Limits.{data_limit, line_limit}
 
 -- no LF is among these bytes
-abbrev pub IsText : List ℕ → Type 0
-IsText bytes = HasNoEnd bytes
+abbrev pub IsLineText : List ℕ → Type 0
+IsLineText bytes = HasNoEnd bytes
 
 -- few enough to be stored under a key
 abbrev pub IsData : List ℕ → Type 0
@@ -24,11 +24,11 @@ split_of line = record { word = front_word (unspaced line); rest = after_word (u
 -- a line before its LF, or the part of one that has come: no LF, and no more bytes than a line may
 -- have, a CR counted
 pub record IsOpenLine (bytes : List ℕ) : Type 0 where
-  pub text : IsText bytes
+  pub text : IsLineText bytes
   pub few : length bytes ≤ line_limit
 
 -- the bytes are one whole line, which holds a first word and what follows it
-pub record IsLine (bytes : List ℕ) (line : Split) : Type 0 where
+pub record IsSplitLine (bytes : List ℕ) (line : Split) : Type 0 where
   pub before : List ℕ
   pub whole : bytes ≡ before ++ line_feed ∷ []
   pub open_line : IsOpenLine before
@@ -40,7 +40,7 @@ IsNumber limit word n = number_of limit word ≡ Some n
 
 -- the bytes are a line that holds this, and the rest
 abbrev pub SplitsLine : List ℕ → Split → List ℕ → Type 0
-SplitsLine bytes line rest = (first : List ℕ) × IsLine first line × (bytes ≡ first ++ rest)
+SplitsLine bytes line rest = (first : List ℕ) × IsSplitLine first line × (bytes ≡ first ++ rest)
 
 -- no LF is where a line must have one
 pub record IsOverlong (bytes : List ℕ) : Type 0 where

@@ -10,43 +10,43 @@ use Rattle.tko_text.specs.declared.response.body.Value.{Value}
 use Rattle.tko_text.specs.declared.response.fault.ReadFault.{ReadFault}
 use Rattle.tko_text.specs.declared.response.fault.ReadFault.TheVariants as fault
 use Rattle.tko_text.specs.Limits.{data_limit, flags_limit, number_limit}
-use Rattle.tko_text.specs.ResponseLines.{IsOpenLine, IsLine, IsNumber, Split}
+use Rattle.tko_text.specs.ResponseLines.{IsOpenLine, IsSplitLine, IsNumber, Split}
 use Rattle.tko_bytes.specs.Words.{words}
 
 -- the requests that a server answers, by the responses that they can have
-pub data Kind : Type 0 where
+pub data RequestKind : Type 0 where
   -- a value of this key, with its cas number or without
-  Retrieval : (key : List ℕ) (unique : Bool) → Kind
+  Retrieval : (key : List ℕ) (unique : Bool) → RequestKind
   -- values of these keys, each with its cas number or without
-  Listing : (keys : List (List ℕ)) (unique : Bool) → Kind
-  Storage : Kind
-  Deletion : Kind
-  Counting : Kind
-  Touching : Kind
-  Probe : Kind
+  Listing : (keys : List (List ℕ)) (unique : Bool) → RequestKind
+  Storage : RequestKind
+  Deletion : RequestKind
+  Counting : RequestKind
+  Touching : RequestKind
+  Probe : RequestKind
 
 -- the kind of a request of these keys
-abbrev pub retrieval : List (List ℕ) → Bool → Option Kind
-retrieval [] unique = None
-retrieval (key ∷ []) unique = Some (Retrieval key unique)
-retrieval (key ∷ other ∷ keys) unique = Some (Listing (key ∷ other ∷ keys) unique)
+abbrev pub retrieval_kind : List (List ℕ) → Bool → Option RequestKind
+retrieval_kind [] unique = None
+retrieval_kind (key ∷ []) unique = Some (Retrieval key unique)
+retrieval_kind (key ∷ other ∷ keys) unique = Some (Listing (key ∷ other ∷ keys) unique)
 
 -- the kind of a request that is sent to a server; `quit` and `stats tko` are never sent
-abbrev pub kind_of : Request → Option Kind
-kind_of (request.Get keys) = retrieval keys false
-kind_of (request.Gets keys) = retrieval keys true
-kind_of (request.Store verb entry noreply) = Some Storage
-kind_of (request.Cas entry unique noreply) = Some Storage
-kind_of (request.Delete key noreply) = Some Deletion
-kind_of (request.Incr key amount noreply) = Some Counting
-kind_of (request.Decr key amount noreply) = Some Counting
-kind_of (request.Touch key expiry noreply) = Some Touching
-kind_of request.Version = Some Probe
-kind_of request.Quit = None
-kind_of request.StatsTko = None
+abbrev pub request_kind : Request → Option RequestKind
+request_kind (request.Get keys) = retrieval_kind keys false
+request_kind (request.Gets keys) = retrieval_kind keys true
+request_kind (request.Store verb entry noreply) = Some Storage
+request_kind (request.Cas entry unique noreply) = Some Storage
+request_kind (request.Delete key noreply) = Some Deletion
+request_kind (request.Incr key amount noreply) = Some Counting
+request_kind (request.Decr key amount noreply) = Some Counting
+request_kind (request.Touch key expiry noreply) = Some Touching
+request_kind request.Version = Some Probe
+request_kind request.Quit = None
+request_kind request.StatsTko = None
 
 -- a request of this kind asked for a value with such a key and cas number
-abbrev pub Asks : Kind → List ℕ → Option ℕ → Type 0
+abbrev pub Asks : RequestKind → List ℕ → Option ℕ → Type 0
 Asks (Retrieval asked unique) key cas = (key ≡ asked) × (is_some cas ≡ unique)
 Asks _ key cas = ⊥
 
@@ -56,19 +56,20 @@ is_among keys key = list_any (λ other. bytes_eq other key) keys
 
 -- a value with such a key and cas number may follow values of the keys `had`: its key was asked
 -- for, and none of them has it
-abbrev pub IsAwaited : List (List ℕ) → Bool → (had : List (List ℕ)) → List ℕ → Option ℕ → Type 0
-IsAwaited keys unique had key cas =
+abbrev pub IsValueAwaited : List (List ℕ) → Bool → (had : List (List ℕ)) → List ℕ
+    → Option ℕ → Type 0
+IsValueAwaited keys unique had key cas =
     (is_among keys key ≡ true) × (is_among had key ≡ false) × (is_some cas ≡ unique)
 
 -- each of the values may follow values of the keys `had` and those of the values before it
 abbrev pub AreAwaited : List (List ℕ) → Bool → (had : List (List ℕ)) → List Value → Type 0
 AreAwaited keys unique had [] = Unit {0}
 AreAwaited keys unique had (value ∷ values) =
-    IsAwaited keys unique had value.key value.unique
+    IsValueAwaited keys unique had value.key value.unique
     × AreAwaited keys unique (had ++ value.key ∷ []) values
 
 -- the responses that a request of each kind can have
-abbrev pub Suits : Kind → Response → Type 0
+abbrev pub Suits : RequestKind → Response → Type 0
 Suits (Retrieval key unique) (Values None) = Unit {0}
 Suits kind (Values (Some value)) = Asks kind value.key value.unique
 Suits (Listing keys unique) (Listed values) = AreAwaited keys unique [] values
@@ -89,8 +90,8 @@ Suits kind (ServerError text) = Unit {0}
 Suits _ _ = ⊥
 
 -- the line is this one word
-abbrev pub IsAlone : List ℕ → Split → Type 0
-IsAlone word line = (line.word ≡ word) × (words line.rest ≡ [])
+abbrev pub IsOneWord : List ℕ → Split → Type 0
+IsOneWord word line = (line.word ≡ word) × (words line.rest ≡ [])
 
 -- the line is this word, one space, and the text, which is kept as it is; the word alone has the
 -- empty text
@@ -99,25 +100,25 @@ IsTextLine word line text = (line.word ≡ word) × (text ≡ drop 1 line.rest)
 
 -- the line is the whole response
 abbrev pub Says : Split → Response → Type 0
-Says line (Values None) = IsAlone (codes "END") line
+Says line (Values None) = IsOneWord (codes "END") line
 Says line (Values (Some value)) = ⊥
 Says line (Listed values) = ⊥
-Says line Stored = IsAlone (codes "STORED") line
-Says line NotStored = IsAlone (codes "NOT_STORED") line
-Says line Exists = IsAlone (codes "EXISTS") line
-Says line Deleted = IsAlone (codes "DELETED") line
-Says line Touched = IsAlone (codes "TOUCHED") line
-Says line NotFound = IsAlone (codes "NOT_FOUND") line
+Says line Stored = IsOneWord (codes "STORED") line
+Says line NotStored = IsOneWord (codes "NOT_STORED") line
+Says line Exists = IsOneWord (codes "EXISTS") line
+Says line Deleted = IsOneWord (codes "DELETED") line
+Says line Touched = IsOneWord (codes "TOUCHED") line
+Says line NotFound = IsOneWord (codes "NOT_FOUND") line
 Says line (Number n) = IsNumber number_limit line.word n × (words line.rest ≡ [])
 Says line (Version text) = IsTextLine (codes "VERSION") line text × (0 < length text)
-Says line Error = IsAlone (codes "ERROR") line
+Says line Error = IsOneWord (codes "ERROR") line
 Says line (ClientError text) = IsTextLine (codes "CLIENT_ERROR") line text
 Says line (ServerError text) = IsTextLine (codes "SERVER_ERROR") line text
 
 -- the bytes are one line, which is the whole response
 pub record IsAnswerLine (bytes : List ℕ) (answer : Response) : Type 0 where
   pub line : Split
-  pub is_line : IsLine bytes line
+  pub is_line : IsSplitLine bytes line
   pub says : Says line answer
 
 -- the words that follow the size of a value are its cas number, where it has one
@@ -153,14 +154,14 @@ pub record IsValue (bytes : List ℕ) (found : Value) : Type 0 where
   pub line : Split
   pub body : List ℕ
   pub whole : bytes ≡ head ++ body
-  pub is_line : IsLine head line
+  pub is_line : IsSplitLine head line
   pub is_body : IsBody line body found
 
 -- the bytes are a value's first line and its data
 pub record IsValueText (bytes : List ℕ) (found : Value) : Type 0 where
   pub head : List ℕ
   pub line : Split
-  pub is_line : IsLine head line
+  pub is_line : IsSplitLine head line
   pub is_head : IsHead line found.key found.flags (length found.data) found.unique
   pub whole : bytes ≡ head ++ block found.data
 
@@ -168,7 +169,8 @@ pub record IsValueText (bytes : List ℕ) (found : Value) : Type 0 where
 abbrev pub IsListing : List ℕ → List Value → Type 0
 IsListing bytes [] = IsAnswerLine bytes (Values None)
 IsListing bytes (found ∷ values) =
-    (first rest : List ℕ) × (bytes ≡ first ++ rest) × IsValueText first found × IsListing rest values
+    (first rest : List ℕ) × (bytes ≡ first ++ rest) × IsValueText first found
+    × IsListing rest values
 
 -- the bytes, from their first to their last, are this response
 abbrev pub Spells : List ℕ → Response → Type 0
@@ -188,7 +190,7 @@ IsCutEnd size bytes =
     (found last : List ℕ) × (length found ≡ size) × (bytes ≡ block found ++ last) × IsOpenLine last
 
 -- a value was asked for, its first line has come, and not all that follows it
-pub record IsCutBody (kind : Kind) (line : Split) (body : List ℕ) : Type 0 where
+pub record IsCutBody (kind : RequestKind) (line : Split) (body : List ℕ) : Type 0 where
   pub key : List ℕ
   pub flags : ℕ
   pub size : ℕ
@@ -197,12 +199,12 @@ pub record IsCutBody (kind : Kind) (line : Split) (body : List ℕ) : Type 0 whe
   pub asked : Asks kind key cas
   pub cut : IsCutData size body ⊎ IsCutEnd size body
 
-pub record IsCutValue (kind : Kind) (bytes : List ℕ) : Type 0 where
+pub record IsCutValue (kind : RequestKind) (bytes : List ℕ) : Type 0 where
   pub head : List ℕ
   pub line : Split
   pub body : List ℕ
   pub whole : bytes ≡ head ++ body
-  pub is_line : IsLine head line
+  pub is_line : IsSplitLine head line
   pub is_cut : IsCutBody kind line body
 
 -- the first line of a value has come that may follow values of the keys `had`, and not all of its
@@ -217,9 +219,9 @@ pub record IsCutText (keys : List (List ℕ)) (unique : Bool) (had : List (List 
   pub size : ℕ
   pub cas : Option ℕ
   pub whole : bytes ≡ head ++ body
-  pub is_line : IsLine head line
+  pub is_line : IsSplitLine head line
   pub is_head : IsHead line key flags size cas
-  pub awaited : IsAwaited keys unique had key cas
+  pub awaited : IsValueAwaited keys unique had key cas
   pub cut : IsCutData size body
 
 -- the bytes, which follow values of the keys `had`, are a line that has no end yet, a value that
@@ -231,27 +233,29 @@ pub data IsCutListing : List (List ℕ) → Bool → List (List ℕ) → List �
       → IsCutText keys unique had bytes → IsCutListing keys unique had bytes
   after_value : (keys : List (List ℕ)) (unique : Bool) (had : List (List ℕ)) (bytes : List ℕ)
       (first rest : List ℕ) (found : Value) → bytes ≡ first ++ rest → IsValueText first found
-      → IsAwaited keys unique had found.key found.unique
+      → IsValueAwaited keys unique had found.key found.unique
       → IsCutListing keys unique (had ++ found.key ∷ []) rest → IsCutListing keys unique had bytes
 
 -- several values were asked for, and not all of the response has come
-abbrev pub IsCutList : Kind → List ℕ → Type 0
+abbrev pub IsCutList : RequestKind → List ℕ → Type 0
 IsCutList (Listing keys unique) bytes = IsCutListing keys unique [] bytes
 IsCutList _ bytes = ⊥
 
 -- the bytes are a line that has no end yet, a value that isn't whole, or values of a response that
 -- isn't whole
-abbrev pub Begins : Kind → List ℕ → Type 0
-Begins kind bytes = IsOpenLine bytes ⊎ (IsCutValue kind bytes ⊎ IsCutList kind bytes)
+abbrev pub IsCutResponse : RequestKind → List ℕ → Type 0
+IsCutResponse kind bytes = IsOpenLine bytes ⊎ (IsCutValue kind bytes ⊎ IsCutList kind bytes)
 
 -- the bytes, all of them, are this response to the request
 unfoldable pub IsResponse : Request → List ℕ → Response → Type 0
 IsResponse asked bytes response =
-    (kind : Kind) × (kind_of asked ≡ Some kind) × Suits kind response × Spells bytes response
+    (kind : RequestKind) × (request_kind asked ≡ Some kind) × Suits kind response
+    × Spells bytes response
 
 -- the bytes may be the beginning of a response to the request
 unfoldable pub IsBeginning : Request → List ℕ → Type 0
-IsBeginning asked bytes = (kind : Kind) × (kind_of asked ≡ Some kind) × Begins kind bytes
+IsBeginning asked bytes =
+    (kind : RequestKind) × (request_kind asked ≡ Some kind) × IsCutResponse kind bytes
 
 -- no front of the bytes is a response to the request
 unfoldable pub NoResponse : Request → List ℕ → Type 0

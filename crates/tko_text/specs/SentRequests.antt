@@ -5,14 +5,14 @@ use Rattle.tko_text.specs.declared.request.Request.{Request}
 use Rattle.tko_text.specs.declared.request.Request.TheVariants.{Store, Cas, Delete, Incr, Decr, Touch}
 
 -- whether a request asks for no reply
-abbrev pub is_silent : Request → Bool
-is_silent (Store verb entry noreply) = noreply
-is_silent (Cas entry unique noreply) = noreply
-is_silent (Delete key noreply) = noreply
-is_silent (Incr key amount noreply) = noreply
-is_silent (Decr key amount noreply) = noreply
-is_silent (Touch key expiry noreply) = noreply
-is_silent _ = false
+abbrev pub asks_no_reply : Request → Bool
+asks_no_reply (Store verb entry noreply) = noreply
+asks_no_reply (Cas entry unique noreply) = noreply
+asks_no_reply (Delete key noreply) = noreply
+asks_no_reply (Incr key amount noreply) = noreply
+asks_no_reply (Decr key amount noreply) = noreply
+asks_no_reply (Touch key expiry noreply) = noreply
+asks_no_reply _ = false
 
 -- the same request, which asks for its reply
 abbrev pub without_noreply : Request → Request

@@ -2,8 +2,8 @@
 use Rattle.std.specs.Prelude.{◌≡◌, ◌<◌, ◌≤◌, ℕ, List, [], ◌∷◌, ◌++◌, length, take, Option, Some, None}
 use Rattle.tko_bytes.specs.Lines.{content, line_feed}
 use Rattle.tko_text.specs.declared.pending.Pending.{Pending}
-use Rattle.tko_text.specs.declared.state.State.{State}
-use Rattle.tko_text.specs.declared.state.State.TheVariants as state
+use Rattle.tko_text.specs.declared.state.ReaderState.{ReaderState}
+use Rattle.tko_text.specs.declared.state.ReaderState.TheVariants as state
 use Rattle.tko_text.specs.Commands.{AwaitsData, parsed}
 use Rattle.tko_text.specs.Lines.{IsLine}
 use Rattle.tko_text.specs.Parsed.{request_with}
@@ -13,7 +13,7 @@ use Rattle.tko_text.specs.declared.item.Item.TheVariants as item
 use Rattle.tko_text.specs.Limits.{data_limit}
 use Rattle.tko_text.specs.Reading.{Reading, Next, Pass, PassLine, Never, Emits, NeedsMore}
 
-abbrev pub reading_of : State → List ℕ → Reading
+abbrev pub reading_of : ReaderState → List ℕ → Reading
 reading_of state.Line unread = record { after = Next; unread = unread }
 reading_of (state.Data pending) unread =
     record { after = Next; unread = pending.line.items ++ pending.data.items }
@@ -41,25 +41,25 @@ pub record IsPending (pending : Pending) : Type 0 where
   pub small : pending.header.size ≤ data_limit
 
 -- but for a line that is awaited, the buffer is empty
-abbrev pub IsState : State → List ℕ → Type 0
+abbrev pub IsState : ReaderState → List ℕ → Type 0
 IsState state.Line unread = Unit {0}
 IsState (state.Data pending) unread = (unread ≡ []) × IsPending pending
 IsState (state.Skip count) unread = (unread ≡ []) × (0 < count)
 IsState state.SkipLine unread = unread ≡ []
 IsState state.Never unread = unread ≡ []
 
-abbrev pub IsDataState : State → Type 0
+abbrev pub IsDataState : ReaderState → Type 0
 IsDataState (state.Data pending) = Unit {0}
 IsDataState _ = ⊥
 
 -- all data of the pending request have come
-abbrev pub HasData : State → Type 0
+abbrev pub HasData : ReaderState → Type 0
 HasData (state.Data pending) =
     (pending.header.size ≤ length pending.data.items) × (pending.header.size ≤ data_limit)
 HasData _ = Unit {0}
 
 -- the pending request with its data
-abbrev pub whole_request : State → Option Item
+abbrev pub whole_request : ReaderState → Option Item
 whole_request (state.Data pending) =
     Some (item.Request (request_with pending.header (take pending.header.size pending.data.items)))
 whole_request _ = None

@@ -8,7 +8,7 @@ use crate::form::{Form, form_of};
 use crate::response::DATA_LIMIT;
 use crate::{Key, Keys, NoMemory, Request, TextFault, Verb};
 use std::alloc::Global;
-use tko_bytes::{Words, number};
+use tko_bytes::{SpacedWords, number};
 
 /// How many bytes a line may have before its LF, a CR counted.
 pub(crate) const LINE_LIMIT: usize = 65_536;
@@ -76,7 +76,7 @@ pub(crate) fn read_line(alloc: Global, line: &[u8]) -> Result<ParsedLine, NoMemo
     ensures is { IfOk result (λ found. parsed line.now ≡ meaning found) }
     ensures fault { IfOk result IsWithinLimits }
 {
-    let mut words = Words::of(line);
+    let mut words = SpacedWords::of(line);
     let Some(word) = words.next() else {
         return Ok(refused(TextFault::UnknownCommand));
     };
@@ -87,7 +87,7 @@ pub(crate) fn read_line(alloc: Global, line: &[u8]) -> Result<ParsedLine, NoMemo
 }
 
 /// The words that follow a command word of this form.
-fn read_form(alloc: Global, form: Form, words: Words) -> Result<ParsedLine, NoMemory>
+fn read_form(alloc: Global, form: Form, words: SpacedWords) -> Result<ParsedLine, NoMemory>
     ensures is { IfOk result (λ found. parsed_form form words.entry ≡ meaning found) }
     ensures fault { IfOk result IsWithinLimits }
 {
@@ -113,7 +113,7 @@ fn read_form(alloc: Global, form: Form, words: Words) -> Result<ParsedLine, NoMe
 }
 
 /// The keys that these words are: one or more.
-fn read_keys(alloc: Global, mut words: Words) -> Result<Result<Keys, TextFault>, NoMemory>
+fn read_keys(alloc: Global, mut words: SpacedWords) -> Result<Result<Keys, TextFault>, NoMemory>
     ensures is { IfOk result (λ found. keys_of words.entry ≡ found) }
     ensures fault { IfOk result (λ found. found ≢ Err TextFault.LineTooLong) }
 {
@@ -131,7 +131,7 @@ fn read_keys(alloc: Global, mut words: Words) -> Result<Result<Keys, TextFault>,
 }
 
 /// `<key> <flags> <expiry> <bytes> [noreply]`
-fn storage_line(alloc: Global, verb: Verb, mut words: Words) -> Result<ParsedLine, NoMemory>
+fn storage_line(alloc: Global, verb: Verb, mut words: SpacedWords) -> Result<ParsedLine, NoMemory>
     ensures is { IfOk result (λ found. parsed_form (Form.Store verb) words.entry ≡ meaning found) }
     ensures fault { IfOk result IsWithinLimits }
 {
@@ -145,7 +145,7 @@ fn storage_line(alloc: Global, verb: Verb, mut words: Words) -> Result<ParsedLin
 }
 
 /// `<key> <flags> <expiry> <bytes> <cas> [noreply]`
-fn cas_line(alloc: Global, mut words: Words) -> Result<ParsedLine, NoMemory>
+fn cas_line(alloc: Global, mut words: SpacedWords) -> Result<ParsedLine, NoMemory>
     ensures is { IfOk result (λ found. parsed_form Form.Cas words.entry ≡ meaning found) }
     ensures fault { IfOk result IsWithinLimits }
 {
@@ -165,7 +165,7 @@ fn cas_line(alloc: Global, mut words: Words) -> Result<ParsedLine, NoMemory>
 }
 
 /// `<key> <flags> <expiry> <bytes>` at the front of the words.
-fn announced<'a>(words: &mut Words<'a>) -> Option<EntryWords<'a>>
+fn announced<'a>(words: &mut SpacedWords<'a>) -> Option<EntryWords<'a>>
     ensures { MatchOption result (announced words.old ≡ None) (λ a.
         announced words.old
         ≡ Some (announced_by a.key.now a.flags a.expiry a.size, words.new)) }
@@ -214,7 +214,7 @@ fn with_data(
 }
 
 /// `<key> [noreply]`
-fn delete_line(alloc: Global, mut words: Words) -> Result<ParsedLine, NoMemory>
+fn delete_line(alloc: Global, mut words: SpacedWords) -> Result<ParsedLine, NoMemory>
     ensures is { IfOk result (λ found. parsed_form Form.Delete words.entry ≡ meaning found) }
     ensures fault { IfOk result IsWithinLimits }
 {
@@ -234,7 +234,7 @@ fn delete_line(alloc: Global, mut words: Words) -> Result<ParsedLine, NoMemory>
 fn counter_line(
     alloc: Global,
     direction: Direction,
-    mut words: Words,
+    mut words: SpacedWords,
 ) -> Result<ParsedLine, NoMemory>
     ensures is { IfOk result (λ found.
         parsed_form (counter_form direction) words.entry ≡ meaning found) }
@@ -270,7 +270,7 @@ fn counter_line(
 }
 
 /// `<key> <expiry> [noreply]`
-fn touch_line(alloc: Global, mut words: Words) -> Result<ParsedLine, NoMemory>
+fn touch_line(alloc: Global, mut words: SpacedWords) -> Result<ParsedLine, NoMemory>
     ensures is { IfOk result (λ found. parsed_form Form.Touch words.entry ≡ meaning found) }
     ensures fault { IfOk result IsWithinLimits }
 {
@@ -297,7 +297,7 @@ fn touch_line(alloc: Global, mut words: Words) -> Result<ParsedLine, NoMemory>
 }
 
 /// A request whose command word no other word follows.
-fn bare_line(request: Request, words: Words) -> ParsedLine
+fn bare_line(request: Request, words: SpacedWords) -> ParsedLine
     ensures is { parsed_bare request words.entry ≡ meaning result }
     ensures fault { IsWithinLimits result }
 {
@@ -309,7 +309,7 @@ fn bare_line(request: Request, words: Words) -> ParsedLine
 }
 
 /// The word `tko`.
-fn stats_line(mut words: Words) -> ParsedLine
+fn stats_line(mut words: SpacedWords) -> ParsedLine
     ensures is { parsed_stats words.entry ≡ meaning result }
     ensures fault { IsWithinLimits result }
 {
@@ -322,7 +322,7 @@ fn stats_line(mut words: Words) -> ParsedLine
 }
 
 /// Whether `noreply` follows, where nothing else does.
-fn noreply(mut words: Words) -> Option<bool>
+fn noreply(mut words: SpacedWords) -> Option<bool>
     ensures { result ≡ noreply words.entry }
 {
     let Some(word) = words.next() else {

@@ -3,7 +3,7 @@ ghost use Rattle.std.specs.Prelude.{◌≡◌, ◌≢◌, ◌↔◌, length, IfO
 ghost use Rattle.tko_text.specs.declared.fault.TextFault.{TextFault};
 
 use crate::buffer::Buffer;
-use crate::state::{State, feed_skipped, feed_skipped_line};
+use crate::state::{ReaderState, feed_skipped, feed_skipped_line};
 use crate::step::{next_data, next_line};
 use crate::{Item, NoMemory};
 use std::alloc::{AllocError, Global};
@@ -36,7 +36,7 @@ impl From<AllocError> for FeedFault {
 pub struct Reader {
     alloc: Global,
     buffer: Buffer,
-    state: State,
+    state: ReaderState,
 }
 
 impl Model for Reader {
@@ -51,16 +51,16 @@ impl Model for Reader {
 }
 
 impl Reader {
-    ghost use Rattle.tko_text.specs.Reading.{start, fed, Emits, NeedsMore, Never};
+    ghost use Rattle.tko_text.specs.Reading.{reading_start, fed, Emits, NeedsMore, Never};
 
     /// A reader that has read nothing.
     pub fn new(alloc: Global) -> Reader
-        ensures { result ≡ start }
+        ensures { result ≡ reading_start }
     {
         Reader {
             alloc,
             buffer: Buffer::new(alloc),
-            state: State::Line,
+            state: ReaderState::Line,
         }
     }
 
@@ -71,14 +71,14 @@ impl Reader {
         ensures err { OnErr result (self.new ≡ self.old) }
     {
         match &mut self.state {
-            State::Line => self.buffer.push(piece)?,
-            State::Data(pending) => pending.data.extend_from_slice(piece)?,
-            State::Skip(count) => {
+            ReaderState::Line => self.buffer.push(piece)?,
+            ReaderState::Data(pending) => pending.data.extend_from_slice(piece)?,
+            ReaderState::Skip(count) => {
                 let count = *count;
                 self.state = feed_skipped(&mut self.buffer, count, piece)?;
             }
-            State::SkipLine => self.state = feed_skipped_line(&mut self.buffer, piece)?,
-            State::Never => return Err(FeedFault::Failed),
+            ReaderState::SkipLine => self.state = feed_skipped_line(&mut self.buffer, piece)?,
+            ReaderState::Never => return Err(FeedFault::Failed),
         }
         Ok(())
     }
@@ -95,11 +95,11 @@ impl Reader {
         ensures never { OnErr result (self.old.after ≢ Never) }
     {
         match &self.state {
-            State::Line => next_line(self.alloc, &mut self.state, &mut self.buffer),
-            State::Data(_) => next_data(&mut self.state, &mut self.buffer),
-            State::Skip(_) => Ok(None),
-            State::SkipLine => Ok(None),
-            State::Never => Ok(None),
+            ReaderState::Line => next_line(self.alloc, &mut self.state, &mut self.buffer),
+            ReaderState::Data(_) => next_data(&mut self.state, &mut self.buffer),
+            ReaderState::Skip(_) => Ok(None),
+            ReaderState::SkipLine => Ok(None),
+            ReaderState::Never => Ok(None),
         }
     }
 
@@ -108,7 +108,7 @@ impl Reader {
         ensures { result ≡ length self.now.unread }
     {
         match &self.state {
-            State::Data(pending) => pending.line.len() + pending.data.len(),
+            ReaderState::Data(pending) => pending.line.len() + pending.data.len(),
             _ => self.buffer.len(),
         }
     }

@@ -10,7 +10,7 @@ use std::alloc::AllocError;
 
 /// What a reader awaits. But for a line that is awaited, its buffer is empty.
 #[derive(Debug, Drop)]
-pub(crate) enum State {
+pub(crate) enum ReaderState {
     /// A line, or the rest of one.
     Line,
     /// The data of a request.
@@ -28,7 +28,7 @@ pub(crate) fn feed_skipped(
     buffer: &mut Buffer,
     count: u128,
     piece: &[u8],
-) -> Result<State, AllocError>
+) -> Result<ReaderState, AllocError>
     requires some { 0 < count }
     requires empty { buffer.old ≡ [] }
     ensures is { IfOk result (λ state. IsState state buffer.new) }
@@ -37,14 +37,17 @@ pub(crate) fn feed_skipped(
     ensures err { OnErr result (buffer.new ≡ buffer.old) }
 {
     if (piece.len() as u128) < count {
-        return Ok(State::Skip(count - piece.len() as u128));
+        return Ok(ReaderState::Skip(count - piece.len() as u128));
     }
     buffer.push(&piece[count as usize..])?;
-    Ok(State::Line)
+    Ok(ReaderState::Line)
 }
 
 /// The state once the input up to its first LF is skipped, of which a piece has come.
-pub(crate) fn feed_skipped_line(buffer: &mut Buffer, piece: &[u8]) -> Result<State, AllocError>
+pub(crate) fn feed_skipped_line(
+    buffer: &mut Buffer,
+    piece: &[u8],
+) -> Result<ReaderState, AllocError>
     requires { buffer.old ≡ [] }
     ensures is { IfOk result (λ state. IsState state buffer.new) }
     ensures ok { IfOk result (λ state. reading_of state buffer.new ≡ passed PassLine piece.now) }
@@ -53,14 +56,14 @@ pub(crate) fn feed_skipped_line(buffer: &mut Buffer, piece: &[u8]) -> Result<Sta
     match memchr(b'\n', piece) {
         Some(end) => {
             buffer.push(&piece[end + 1..])?;
-            Ok(State::Line)
+            Ok(ReaderState::Line)
         }
-        None => Ok(State::SkipLine),
+        None => Ok(ReaderState::SkipLine),
     }
 }
 
 /// The state once `count` bytes are skipped, of which some may be unread.
-pub(crate) fn skip(buffer: &mut Buffer, count: u128) -> State
+pub(crate) fn skip(buffer: &mut Buffer, count: u128) -> ReaderState
     requires { 0 < count }
     ensures is { IsState result buffer.new }
     ensures reading { reading_of result buffer.new ≡ passed (Pass count) buffer.old }
@@ -69,28 +72,28 @@ pub(crate) fn skip(buffer: &mut Buffer, count: u128) -> State
     if (len as u128) < count {
         buffer.consume(len);
         buffer.compact();
-        State::Skip(count - len as u128)
+        ReaderState::Skip(count - len as u128)
     } else {
         buffer.consume(count as usize);
-        State::Line
+        ReaderState::Line
     }
 }
 
 /// The state once all bytes up to the first LF are skipped, of which some may be unread.
-pub(crate) fn skip_line(buffer: &mut Buffer) -> State
+pub(crate) fn skip_line(buffer: &mut Buffer) -> ReaderState
     ensures is { IsState result buffer.new }
     ensures reading { reading_of result buffer.new ≡ passed PassLine buffer.old }
 {
     match buffer.line_end() {
         Some(end) => {
             buffer.consume(end + 1);
-            State::Line
+            ReaderState::Line
         }
         None => {
             let len = buffer.len();
             buffer.consume(len);
             buffer.compact();
-            State::SkipLine
+            ReaderState::SkipLine
         }
     }
 }

@@ -11,7 +11,7 @@ use crate::buffer::Buffer;
 use crate::data::{DataEnd, data_end};
 use crate::line::{Header, LINE_LIMIT, ParsedLine, read_line};
 use crate::pending::{Pending, request_with};
-use crate::state::{State, skip, skip_line};
+use crate::state::{ReaderState, skip, skip_line};
 use crate::{Data, Item, NoMemory, TextFault};
 use std::alloc::Global;
 use std::mem::replace;
@@ -20,7 +20,7 @@ use tko_bytes::content;
 /// The next item where a line is awaited.
 pub(crate) fn next_line(
     alloc: Global,
-    state: &mut State,
+    state: &mut ReaderState,
     buffer: &mut Buffer,
 ) -> Result<Option<Item>, NoMemory>
     requires { state.old ≡ State.Line }
@@ -43,7 +43,7 @@ pub(crate) fn next_line(
 /// The item of the line that has `len` bytes before its LF.
 fn read(
     alloc: Global,
-    state: &mut State,
+    state: &mut ReaderState,
     buffer: &mut Buffer,
     len: usize,
 ) -> Result<Option<Item>, NoMemory>
@@ -75,7 +75,7 @@ fn read(
 /// The item of a header, whose line has `len` bytes before its LF, and its data.
 fn read_data(
     alloc: Global,
-    state: &mut State,
+    state: &mut ReaderState,
     buffer: &mut Buffer,
     len: usize,
     header: Header,
@@ -93,7 +93,7 @@ fn read_data(
     let bytes = buffer.after(len + 1);
     match data_end(bytes, header.size) {
         DataEnd::Open => {
-            *state = State::Data(pending_of(alloc, buffer, len + 1, header)?);
+            *state = ReaderState::Data(pending_of(alloc, buffer, len + 1, header)?);
             Ok(None)
         }
         DataEnd::Whole => {
@@ -139,7 +139,10 @@ fn pending_of(
 }
 
 /// The next item where data are awaited.
-pub(crate) fn next_data(state: &mut State, buffer: &mut Buffer) -> Result<Option<Item>, NoMemory>
+pub(crate) fn next_data(
+    state: &mut ReaderState,
+    buffer: &mut Buffer,
+) -> Result<Option<Item>, NoMemory>
     requires is { IsState state.old buffer.old }
     requires awaits { IsDataState state.old }
     ensures is { IfOk result (λ found. IsState state.new buffer.new) }
@@ -147,18 +150,18 @@ pub(crate) fn next_data(state: &mut State, buffer: &mut Buffer) -> Result<Option
         Steps (reading_of state.old buffer.old) found (reading_of state.new buffer.new)) }
     ensures err { OnErr result ((state.new ≡ state.old) × (buffer.new ≡ buffer.old)) }
 {
-    let State::Data(pending) = state else {
+    let ReaderState::Data(pending) = state else {
         return Ok(None);
     };
     match data_end(&pending.data, pending.header.size) {
         DataEnd::Open => Ok(None),
         DataEnd::Whole => {
             buffer.push(&pending.data[pending.header.size + 2..])?;
-            Ok(request_of(replace(state, State::Line)))
+            Ok(request_of(replace(state, ReaderState::Line)))
         }
         DataEnd::WrongLine(count) => {
             buffer.push(&pending.data[count..])?;
-            *state = State::Line;
+            *state = ReaderState::Line;
             Ok(Some(Item::Fault(TextFault::BadChunk)))
         }
         DataEnd::Wrong(count) => {
@@ -170,11 +173,11 @@ pub(crate) fn next_data(state: &mut State, buffer: &mut Buffer) -> Result<Option
 }
 
 /// The request of a header and the first of the bytes that follow it.
-fn request_of(state: State) -> Option<Item>
+fn request_of(state: ReaderState) -> Option<Item>
     requires { HasData state }
     ensures { result ≡ whole_request state }
 {
-    let State::Data(pending) = state else {
+    let ReaderState::Data(pending) = state else {
         return None;
     };
     let Pending {
@@ -187,7 +190,7 @@ fn request_of(state: State) -> Option<Item>
 }
 
 /// The fault of a line past its limit, after which nothing is read.
-fn fail(state: &mut State, buffer: &mut Buffer) -> Item
+fn fail(state: &mut ReaderState, buffer: &mut Buffer) -> Item
     requires { IsBeyond buffer.old }
     ensures is { IsState state.new buffer.new }
     ensures steps { Steps (at buffer.old) (Some result) (reading_of state.new buffer.new) }
@@ -195,6 +198,6 @@ fn fail(state: &mut State, buffer: &mut Buffer) -> Item
     let len = buffer.len();
     buffer.consume(len);
     buffer.compact();
-    *state = State::Never;
+    *state = ReaderState::Never;
     Item::Fault(TextFault::LineTooLong)
 }

@@ -6,7 +6,7 @@ use Rattle.tko_model.specs.declared.mark.Op.TheVariants.{Release}
 use Rattle.tko_model.specs.declared.mark.Reply.{Reply}
 use Rattle.tko_model.specs.Records.{Called, Gains, HealthItem}
 use Rattle.tko_model.proofs.RecordLemmas.{gains_none, gains_push}
-use Rattle.tko_health.specs.Seating.{IsRelease, Releases}
+use Rattle.tko_health.specs.Seating.{IsReleaseItem, ReleasesMarks}
 use Rattle.tko_threads.specs.Leaving.{ReleasesEach, releases_from}
 
 releases_from-push : (server at : ℕ) (answers : List Reply) (answer : Reply) → server + length answers ≡ at
@@ -17,10 +17,10 @@ releases_from-push server at (first ∷ answers) answer is =
     let next : server + 1 + length answers ≡ at = omega (arith, is) in
     ap (λ (its : List HealthItem). Called Release server first ∷ its) (releases_from-push (server + 1) at answers answer next)
 
-are_releases : (server : ℕ) (answers : List Reply) → All IsRelease (releases_from server answers)
-are_releases server [] = All-nil IsRelease
+are_releases : (server : ℕ) (answers : List Reply) → All IsReleaseItem (releases_from server answers)
+are_releases server [] = All-nil IsReleaseItem
 are_releases server (answer ∷ answers) =
-    All-cons IsRelease (Called Release server answer) (releases_from (server + 1) answers)
+    All-cons IsReleaseItem (Called Release server answer) (releases_from (server + 1) answers)
     (record { server = server; answer = answer; is = refl }) (are_releases (server + 1) answers)
 
 module _ {W : Type 0} {steps : W → HealthItem → W → Type 0} where
@@ -37,5 +37,5 @@ module _ {W : Type 0} {steps : W → HealthItem → W → Type 0} where
   }
 
   -- they are releases, and nothing else
-  pub released_each : {count : ℕ} {old new : W} → ReleasesEach steps count old new → Releases steps old new
+  pub released_each : {count : ℕ} {old new : W} → ReleasesEach steps count old new → ReleasesMarks steps old new
   released_each made = record { items = releases_from 0 made.answers; each = are_releases 0 made.answers; gains = made.gains }

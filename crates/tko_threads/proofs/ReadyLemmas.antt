@@ -2,7 +2,7 @@
 use Rattle.std.proofs.Common.{◌≡◌, ℕ, List, All, [], ◌∷◌, ◌++◌, subst, sym}
 use Rattle.std.proofs.lemmas.List.Elements.{All-push}
 use Rattle.tko_threads.specs.declared.pooling.Member.{Member}
-use Rattle.tko_threads.specs.Workers.{AreReady, IsEquipped, IsReady}
+use Rattle.tko_threads.specs.Workers.{AreMembersReady, IsEquipped, IsMemberReady}
 
 -- what is a seating's own is that of an equal one
 pub own_there : {S P : Type 0} (own : S → P → Type 0) (one other : S) (idle : P) → one ≡ other
@@ -13,10 +13,10 @@ own_there {S} {P} own one other idle same is =
 -- one member more
 pub one_more_ready : {C P S L M : Type 0} (own : S → P → Type 0) (seated : S → ℕ) (linked : L → ℕ)
     (before after : List (Member C P S L M)) (member : Member C P S L M)
-    → after ≡ before ++ member ∷ [] → AreReady own seated linked before
+    → after ≡ before ++ member ∷ [] → AreMembersReady own seated linked before
     → own member.parts.seating.now member.idle → IsEquipped seated linked member.parts
-    → AreReady own seated linked after
+    → AreMembersReady own seated linked after
 one_more_ready {C} {P} {S} {L} {M} own seated linked before after member pushed ready seat equipped =
-    let R : Member C P S L M → Type 0 = λ m. IsReady own seated linked m in
+    let R : Member C P S L M → Type 0 = λ m. IsMemberReady own seated linked m in
     let one : R member = record { seat = seat; equipped = equipped } in
     subst (All R) (sym pushed) (All-push R before member ready one)

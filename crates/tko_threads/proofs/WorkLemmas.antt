@@ -4,7 +4,7 @@ use Rattle.tko_model.proofs.RecordLemmas.{gains_none, gains_push}
 use Rattle.tko_session.specs.declared.fault.SessionFault.{SessionFault}
 use Rattle.tko_session.specs.declared.step.Report.{Report}
 use Rattle.tko_desk.specs.declared.book.Share.{Share}
-use Rattle.tko_threads.specs.Worked.{AtWork, HasSettled, IsRested, IsServed, IsSession, IsWork, Rested, Served, WithShare, WorkerEvent, WorkerGhosts, Works, with_share}
+use Rattle.tko_threads.specs.Worked.{AtWork, HasSettled, IsRoundRun, IsSession, IsSessionServed, IsWork, Rested, Served, WithShare, WorkerEvent, WorkerGhosts, Works, with_share}
 
 module _ {I O H L C : Type 0} {ghosts : WorkerGhosts I O H L C} where
   -- nothing yet
@@ -26,12 +26,12 @@ module _ {I O H L C : Type 0} {ghosts : WorkerGhosts I O H L C} where
       → Works ghosts old (with_share at share) → IsSession ghosts at ended mid
       → HasSettled ghosts.backend (with_share mid share) full new → Works ghosts old new
   works_session {at} {mid} {share} {new} {ended} {full} so_far session settled =
-      let served : IsServed ghosts (with_share at share) ended full new =
+      let served : IsSessionServed ghosts (with_share at share) ended full new =
       record { mid = mid; session = session; settled = settled } in
       works_on (Served ended full) so_far served
 
   -- a round was run
   pub works_round : {old : WithShare H L C} {at new : AtWork H L C} {share : Share} {short : Bool}
-      → Works ghosts old (with_share at share) → IsRested ghosts.backend at short new
+      → Works ghosts old (with_share at share) → IsRoundRun ghosts.backend at short new
       → Works ghosts old (with_share new share)
   works_round {short} so_far rested = works_on (Rested short) so_far (rested, refl)

@@ -1,7 +1,7 @@
 -- What a worker's account is given: of each kind the number that was counted, in the book and in
 -- its share, or nothing of it where the ledger is full.
 use Rattle.std.specs.Prelude.{◌≡◌, Bool, true, false, List, [], ◌∷◌}
-use Rattle.tko_model.specs.Numbers.{number_of}
+use Rattle.tko_model.specs.Numbers.{number_of_kind}
 use Rattle.tko_model.specs.declared.counts.Counts.{Counts}
 use Rattle.tko_model.specs.declared.kind.Kind.{Kind}
 use Rattle.tko_model.specs.declared.kind.Kind.TheVariants.{Request, Attempt, Skip, Reply, NoServer, Probe}
@@ -25,10 +25,10 @@ ledger book share full = record { book = book; share = share; full = full }
 
 -- what was counted of a kind was added: all of it, or nothing where a sum would be too great
 pub data IsCounted (counts : Counts) (old : Ledger) (kind : Kind) (new : Ledger) : Type 0 where
-  Added : ¬ IsTooMany kind (number_of kind counts) old.book old.share
-      → IsAdded kind (number_of kind counts) old.book old.share new.book new.share
+  Added : ¬ IsTooMany kind (number_of_kind kind counts) old.book old.share
+      → IsAdded kind (number_of_kind kind counts) old.book old.share new.book new.share
       → new.full ≡ old.full → IsCounted counts old kind new
-  Refused : IsTooMany kind (number_of kind counts) old.book old.share
+  Refused : IsTooMany kind (number_of_kind kind counts) old.book old.share
       → new ≡ record old { full = true } → IsCounted counts old kind new
 
 -- so it was with each kind

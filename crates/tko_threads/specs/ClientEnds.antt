@@ -15,8 +15,8 @@ attended inlet = record {
 }
 
 -- what a client takes, with the times at which it was too slow
-abbrev pub paced : {O M : Type 0} → OutletGhosts O → OutletGhosts (Paced O M)
-paced outlet = record {
+abbrev pub paced_outlet : {O M : Type 0} → OutletGhosts O → OutletGhosts (Paced O M)
+paced_outlet outlet = record {
   takes = λ a bytes b. outlet.takes a.inner bytes b.inner;
   failures = λ a. outlet.failures a.inner + a.failures;
 }

@@ -12,9 +12,9 @@ abbrev pub no_report : WorkerReport
 no_report = record { sessions = 0; faults = 0; memory = false; ledger_full = false }
 
 -- whether memory ran out in a session
-abbrev pub ran_out : SessionFault → Bool
-ran_out fault.Memory = true
-ran_out _ = false
+abbrev pub session_ran_out : SessionFault → Bool
+session_ran_out fault.Memory = true
+session_ran_out _ = false
 
 -- how the metrics call a session's end
 abbrev pub ending_of : {T : Type 0} → Result T SessionFault → Ending
@@ -30,7 +30,7 @@ counted_session report (Ok served) = record report { sessions = capped (report.s
 counted_session report (Err cause) = record report {
   sessions = capped (report.sessions + 1);
   faults = capped (report.faults + 1);
-  memory = report.memory || ran_out cause;
+  memory = report.memory || session_ran_out cause;
 }
 
 -- a round more, in which memory ran out or did not

@@ -1,8 +1,8 @@
 -- A client's time: when a round is due while it is served, and when its time is over.
 use Rattle.std.specs.Prelude.{◌-◌, ◌==◌, nat_lt, if◌then◌else◌, ℕ, Option, Some, None}
 use Rattle.tko_pace.specs.Silence.{is_over}
-use Rattle.tko_threads.specs.declared.watch.Turn.{Turn}
-use Rattle.tko_threads.specs.declared.watch.Turn.TheVariants.{Read, Idle, Over}
+use Rattle.tko_threads.specs.declared.watch.WatchNext.{WatchNext}
+use Rattle.tko_threads.specs.declared.watch.WatchNext.TheVariants.{Read, Idle, Over}
 use Rattle.tko_threads.specs.declared.watch.Watch.{Watch}
 
 -- for how many milliseconds at most a worker waits for its client until it looks at the time again
@@ -11,7 +11,7 @@ longest_wait = 100
 
 -- whose turn it is at this moment: the client's time is over where it has a limit, and completed no
 -- request for so long; a round is due so long after the last one ended; else bytes are read
-abbrev pub turn_at : Watch → ℕ → Turn
+abbrev pub turn_at : Watch → ℕ → WatchNext
 turn_at watch now =
     if is_over watch.limit watch.since now then Over
     else (if nat_lt (now - watch.rounded) longest_wait then Read else Idle)
@@ -33,11 +33,11 @@ caught_up watch now requests =
     else record watch { requests = requests; since = now; rounded = now; waited = None }
 
 -- another client begins
-abbrev pub begun : ℕ → ℕ → Watch → Watch
-begun limit now watch = record watch { limit = limit; since = now }
+abbrev pub begun_watch : ℕ → ℕ → Watch → Watch
+begun_watch limit now watch = record watch { limit = limit; since = now }
 
 -- at an idle turn a round begins
-abbrev pub after_turn : Turn → ℕ → Watch → Watch
-after_turn Read now watch = watch
-after_turn Idle now watch = resting now watch
-after_turn Over now watch = watch
+abbrev pub after_watch_turn : WatchNext → ℕ → Watch → Watch
+after_watch_turn Read now watch = watch
+after_watch_turn Idle now watch = resting now watch
+after_watch_turn Over now watch = watch

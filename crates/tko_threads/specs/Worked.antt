@@ -94,29 +94,29 @@ pub data WorkerEvent : Type 0 where
 
 module _ {H L C : Type 0} (ghosts : BackendGhosts H L C) where
   -- how many probes were sent to the servers
-  abbrev pub probes_of : Parts H L Counts C → ℕ
-  probes_of parts = capped
+  abbrev pub probes_sent_to_all : Parts H L Counts C → ℕ
+  probes_sent_to_all parts = capped
       (probes_below (ghosts.probed parts.backend.links) (length parts.config.addresses))
 
   -- what the account lacks: what was counted since it was settled, and the probes since then
   abbrev pub unsettled : AtWork H L C → Counts
-  unsettled at = saturated kind.Probe (probes_of at.parts - at.probes) at.parts.trails
+  unsettled at = saturated kind.Probe (probes_sent_to_all at.parts - at.probes) at.parts.trails
 
   -- all of that was taken for the account, which was full for a kind or not
-  pub record IsSettled (old : AtWork H L C) (full : Bool) (new : AtWork H L C) : Type 0 where
+  pub record IsWorkSettled (old : AtWork H L C) (full : Bool) (new : AtWork H L C) : Type 0 where
     pub parts : new.parts ≡ record old.parts { trails = no_counts }
     pub report : new.report
         ≡ record old.report { ledger_full = old.report.ledger_full || full }
-    pub probes : new.probes ≡ probes_of old.parts
+    pub probes : new.probes ≡ probes_sent_to_all old.parts
 
   -- what the account lacked was taken for it, and its share was given that, each kind for which the
   -- ledger was not full
   pub record HasSettled (old : WithShare H L C) (full : Bool) (new : WithShare H L C) : Type 0 where
-    pub taken : IsSettled old.work full new.work
+    pub taken : IsWorkSettled old.work full new.work
     pub given : IsGiven (unsettled old.work) old.share full new.share
 
   -- a round was run, in which memory ran out or did not
-  pub record IsRested (old : AtWork H L C) (short : Bool) (new : AtWork H L C) : Type 0 where
+  pub record IsRoundRun (old : AtWork H L C) (short : Bool) (new : AtWork H L C) : Type 0 where
     pub round : Rounded ghosts short old.parts new.parts
     pub report : new.report ≡ with_memory old.report short
     pub probes : new.probes ≡ old.probes
@@ -135,16 +135,16 @@ module _ {I O H L C : Type 0} (ghosts : WorkerGhosts I O H L C) where
     pub probes : new.probes ≡ old.probes
 
   -- a client's session ended so, and then the account was settled
-  pub record IsServed (old : WithShare H L C) (ended : Result Report SessionFault) (full : Bool)
-      (new : WithShare H L C) : Type 0 where
+  pub record IsSessionServed (old : WithShare H L C) (ended : Result Report SessionFault)
+      (full : Bool) (new : WithShare H L C) : Type 0 where
     pub mid : AtWork H L C
     pub session : IsSession old.work ended mid
     pub settled : HasSettled ghosts.backend (with_share mid old.share) full new
 
   abbrev pub IsWork : WithShare H L C → WorkerEvent → WithShare H L C → Type 0
-  IsWork old (Served ended full) new = IsServed old ended full new
+  IsWork old (Served ended full) new = IsSessionServed old ended full new
   IsWork old (Rested short) new =
-      IsRested ghosts.backend old.work short new.work × (new.share ≡ old.share)
+      IsRoundRun ghosts.backend old.work short new.work × (new.share ≡ old.share)
 
   -- a worker did this, and nothing else
   pub record Works (old new : WithShare H L C) : Type 0 where

@@ -11,12 +11,13 @@ pub record IsEquipped {S L M : Type 0} (seated : S → ℕ) (linked : L → ℕ)
   pub probers : length parts.probers.slots ≡ length parts.config.addresses
 
 -- a member has an idle seat of its seating, and all that a worker needs
-pub record IsReady {C P S L M : Type 0} (own : S → P → Type 0) (seated : S → ℕ) (linked : L → ℕ)
-    (member : Member C P S L M) : Type 0 where
+pub record IsMemberReady {C P S L M : Type 0} (own : S → P → Type 0) (seated : S → ℕ)
+    (linked : L → ℕ) (member : Member C P S L M) : Type 0 where
   pub seat : own member.parts.seating.now member.idle
   pub equipped : IsEquipped seated linked member.parts
 
 -- each of these members is ready
-abbrev pub AreReady : {C P S L M : Type 0} → (S → P → Type 0) → (S → ℕ) → (L → ℕ)
+abbrev pub AreMembersReady : {C P S L M : Type 0} → (S → P → Type 0) → (S → ℕ) → (L → ℕ)
     → List (Member C P S L M) → Type 0
-AreReady own seated linked members = All (λ member. IsReady own seated linked member) members
+AreMembersReady own seated linked members =
+    All (λ member. IsMemberReady own seated linked member) members

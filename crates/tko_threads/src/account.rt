@@ -1,6 +1,6 @@
 //! A worker's account with the ledger of all workers.
 ghost use Rattle.std.specs.Prelude.{◌≡◌, ◌↔◌, ◌||◌, Bool, IsTrue, IsFalse, false};
-ghost use Rattle.tko_model.specs.Numbers.{number_of};
+ghost use Rattle.tko_model.specs.Numbers.{number_of_kind};
 ghost use Rattle.tko_desk.specs.Ledger.{IsAdded, IsTooMany};
 ghost use Rattle.tko_model.specs.Records.{Gains};
 ghost use Rattle.tko_threads.specs.Accounts.{AreCounted, IsCounted, IsGiven, ledger};
@@ -49,10 +49,10 @@ fn add_kinds(book: &mut Book, share: &mut Share, counts: &Counts, kinds: &[Kind]
 
 /// Adds the number of a kind, and returns whether the ledger was full for it.
 fn add_kind(book: &mut Book, share: &mut Share, counts: &Counts, kind: Kind) -> bool
-    ensures added { IsFalse result → IsAdded kind (number_of kind counts.now)
+    ensures added { IsFalse result → IsAdded kind (number_of_kind kind counts.now)
         book.old share.old book.new share.new }
     ensures full { IsTrue result
-        ↔ IsTooMany kind (number_of kind counts.now) book.old share.old }
+        ↔ IsTooMany kind (number_of_kind kind counts.now) book.old share.old }
     ensures kept { IsTrue result → (book.new ≡ book.old) × (share.new ≡ share.old) }
     ensures counted { (full : Bool) → IsCounted counts.now (ledger book.old share.old full) kind
         (ledger book.new share.new (full || result)) }

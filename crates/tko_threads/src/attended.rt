@@ -1,6 +1,6 @@
 //! What a client sends, read while its worker keeps an eye on the time.
 
-use crate::watch::{Turn, Watch};
+use crate::watch::{Watch, WatchNext};
 use std::sync::atomic::{AtomicU64, Ordering};
 use tko_io::{Clock, Inlet, IoRuntime, Stop, raise};
 
@@ -52,7 +52,7 @@ impl<'r, M: Clock> Attendance<'r, M> {
     }
 
     /// What comes next.
-    fn look<R: IoRuntime>(&mut self, rt: &R) -> Turn {
+    fn look<R: IoRuntime>(&mut self, rt: &R) -> WatchNext {
         let now = self.clock.next(rt);
         let requests = self.requests();
         self.watch.look(now, requests)
@@ -98,18 +98,18 @@ impl<'a, 'r, I: Inlet, M: Clock> Inlet for Attended<'a, 'r, I, M> {
 
     fn read<R: IoRuntime>(&mut self, rt: &R, buffer: &mut [u8]) -> Result<usize, Stop> {
         match self.attendance.look(rt) {
-            Turn::Read => {
+            WatchNext::Read => {
                 let read = self.inner.read(rt, buffer);
                 if read == Err(Stop::Idle) {
                     self.attendance.rest(rt);
                 }
                 read
             }
-            Turn::Idle => {
+            WatchNext::Idle => {
                 raise(rt, &mut self.idles);
                 Err(Stop::Idle)
             }
-            Turn::Over => {
+            WatchNext::Over => {
                 raise(rt, &mut self.failures);
                 Err(Stop::Fault)
             }

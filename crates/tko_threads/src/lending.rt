@@ -1,7 +1,7 @@
 //! The passes of a server's workers: a desk lends them, and gets them back.
 ghost use Rattle.std.specs.Prelude.{◌≡◌, All, IfOk, length};
 ghost use Rattle.tko_tracker.specs.Seated.{IsOf};
-ghost use Rattle.tko_threads.specs.Workers.{AreReady};
+ghost use Rattle.tko_threads.specs.Workers.{AreMembersReady};
 
 use crate::{Member, Source, WorkerReport, pool};
 use std::alloc::Global;
@@ -57,7 +57,7 @@ pub fn work<
     desk: &Desk<N>,
     members: Vec<PassMember<'_, '_, N, C, L, M>>,
 ) -> Result<WorkerReport, NoMemory>
-    requires { AreReady (λ _ idle. IsOf N.tracker idle) (λ _. N.tracker.settings.servers)
+    requires { AreMembersReady (λ _ idle. IsOf N.tracker idle) (λ _. N.tracker.settings.servers)
         L.servers members.items }
 {
     let ended = pool(rt, alloc, members)?;

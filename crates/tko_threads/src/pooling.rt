@@ -2,9 +2,9 @@
 ghost use Rattle.std.specs.Prelude.{◌≡◌, ◌<◌, ℕ, IfOk, slice_index_or, vec_len};
 ghost use Rattle.tko_prober.specs.Ghosts.{backend_ghosts};
 ghost use Rattle.tko_health.specs.Seating.{Leaves};
-ghost use Rattle.tko_threads.specs.ClientEnds.{attended, paced};
+ghost use Rattle.tko_threads.specs.ClientEnds.{attended, paced_outlet};
 ghost use Rattle.tko_threads.specs.Worked.{MemberWorked, worker_ghosts};
-ghost use Rattle.tko_threads.specs.Workers.{AreReady, IsReady};
+ghost use Rattle.tko_threads.specs.Workers.{AreMembersReady, IsMemberReady};
 
 use crate::{Source, WorkerParts, WorkerReport, worker};
 use std::alloc::Global;
@@ -44,22 +44,22 @@ pub fn pool<
     alloc: Global,
     members: Vec<Member<'a, C, P, S, L, M>>,
 ) -> Result<Vec<(P, WorkerReport)>, NoMemory>
-    requires ready { AreReady S.own S.servers L.servers members.items }
+    requires ready { AreMembersReady S.own S.servers L.servers members.items }
     ensures number { IfOk result (λ ended. vec_len ended ≡ vec_len members.entry) }
     ensures own { IfOk result (λ ended. (place : ℕ) (m : _) (e : _) → place < vec_len ended
         → S.own (slice_index_or members.entry.items place m).parts.seating.now
         (slice_index_or ended.items place e).0) }
     ensures worked { IfOk result (λ ended. (place : ℕ) (m : _) (e : _) → place < vec_len ended
-        → MemberWorked (worker_ghosts (attended {M = W} I.Inlet) (paced {M = W} O.Outlet)
+        → MemberWorked (worker_ghosts (attended {M = W} I.Inlet) (paced_outlet {M = W} O.Outlet)
         (backend_ghosts H.Health L.Links M.Clock))
         S.begins (λ seating. Leaves H.steps (S.gives_back seating))
         (slice_index_or members.entry.items place m) (slice_index_or ended.items place e)) }
 {
     let work = |member: Member<'_, C, P, S, L, M>| -> (P, WorkerReport)
-        requires { IsReady S.own S.servers L.servers member }
+        requires { IsMemberReady S.own S.servers L.servers member }
         ensures own { S.own member.entry.parts.seating.now result.0 }
         ensures worked { MemberWorked (worker_ghosts (attended {M = W} I.Inlet)
-            (paced {M = W} O.Outlet) (backend_ghosts H.Health L.Links M.Clock))
+            (paced_outlet {M = W} O.Outlet) (backend_ghosts H.Health L.Links M.Clock))
             S.begins (λ seating. Leaves H.steps (S.gives_back seating)) member.entry result }
     { worker(rt, alloc, member.source, member.idle, member.parts) };
     Ok(thread::map_vec(rt, members, &work)?)

@@ -32,9 +32,9 @@ const SETTINGS: OneGroup = OneGroup {
 };
 
 /// Names these settings.
-struct Two;
+struct OneServerSettings;
 
-impl TrackerSettings for Two {
+impl TrackerSettings for OneServerSettings {
     ghost settings = { record {
       servers = 1;
       threads = 2;

@@ -1,13 +1,13 @@
 //! When a round of probes is due while a client is served, and when the client's time is over.
 ghost use Rattle.std.specs.Prelude.{◌≡◌, ◌≢◌, ◌-◌, None, Some};
-ghost use Rattle.tko_threads.specs.Watching.{after_turn, begun, caught_up, resting, turn_at};
+ghost use Rattle.tko_threads.specs.Watching.{after_watch_turn, begun_watch, caught_up, resting, turn_at};
 
 use crate::patience::IDLE;
 use tko_pace::is_over;
 
 /// What comes next, where a client's bytes are to be read.
 #[derive(Clone, Copy, Debug, PartialEq, Eq)]
-pub(crate) enum Turn {
+pub(crate) enum WatchNext {
     /// They are read.
     Read,
     /// First a round of probes is run.
@@ -55,7 +55,7 @@ impl Watch {
     /// A client begins, whose limit this is. When the last round ended is kept, so that clients
     /// that come and go put no round off.
     pub(crate) fn begin(&mut self, now: u64, requests: u64, limit: u32)
-        ensures { self.new ≡ begun limit now (caught_up self.old now requests) }
+        ensures { self.new ≡ begun_watch limit now (caught_up self.old now requests) }
     {
         self.catch_up(now, requests);
         self.since = now;
@@ -63,9 +63,9 @@ impl Watch {
     }
 
     /// What comes next at this moment, where the worker has begun to answer so many requests.
-    pub(crate) fn look(&mut self, now: u64, requests: u64) -> Turn
+    pub(crate) fn look(&mut self, now: u64, requests: u64) -> WatchNext
         ensures turn { result ≡ turn_at (caught_up self.old now requests) now }
-        ensures watch { self.new ≡ after_turn result now (caught_up self.old now requests) }
+        ensures watch { self.new ≡ after_watch_turn result now (caught_up self.old now requests) }
         // A request gives the client all of its time again, and its round was the last one.
         ensures served { self.old.requests ≢ requests → result ≡ Turn.Read }
         // Between two idle turns stands a read.
@@ -74,7 +74,7 @@ impl Watch {
     {
         self.catch_up(now, requests);
         let turn = self.turn(now);
-        if turn == Turn::Idle {
+        if turn == WatchNext::Idle {
             self.rest(now);
         }
         turn
@@ -111,15 +111,15 @@ impl Watch {
         self.waited = None;
     }
 
-    fn turn(&self, now: u64) -> Turn
+    fn turn(&self, now: u64) -> WatchNext
         ensures { result ≡ turn_at self.now now }
     {
         if is_over(self.limit, self.since, now) {
-            return Turn::Over;
+            return WatchNext::Over;
         }
         if now.saturating_sub(self.rounded) < u64::from(IDLE) {
-            return Turn::Read;
+            return WatchNext::Read;
         }
-        Turn::Idle
+        WatchNext::Idle
     }
 }

@@ -5,8 +5,8 @@ ghost use Rattle.tko_io.specs.Io.{capped};
 ghost use Rattle.tko_session.specs.declared.fault.SessionFault.{SessionFault};
 ghost use Rattle.tko_session.specs.declared.step.Report.{Report};
 ghost use Rattle.tko_threads.specs.Reports.{ending_of};
-ghost use Rattle.tko_threads.specs.ClientEnds.{attended, paced};
-ghost use Rattle.tko_threads.specs.Worked.{HasSettled, HasWorked, IsRested, IsSession, IsSettled, Works, at_work, probes_below, unsettled, with_share, worker_ghosts};
+ghost use Rattle.tko_threads.specs.ClientEnds.{attended, paced_outlet};
+ghost use Rattle.tko_threads.specs.Worked.{HasSettled, HasWorked, IsRoundRun, IsSession, IsWorkSettled, Works, at_work, probes_below, unsettled, with_share, worker_ghosts};
 ghost use Rattle.tko_threads.specs.Workers.{IsEquipped};
 ghost use Rattle.tko_reply.specs.Answers.{Reaches};
 ghost use Rattle.tko_prober.specs.Ghosts.{backend_ghosts};
@@ -54,7 +54,7 @@ pub fn worker<R: IoRuntime, C: Source + Drop, S: Seating, L: Links + Drop, M: Cl
     requires equipped { IsEquipped S.servers L.servers parts }
     ensures own { S.own parts.entry.seating.now result.0 }
     ensures worked { HasWorked (worker_ghosts
-        (attended {M = C.Clock} C.Reader.Inlet) (paced {M = C.Clock} C.Writer.Outlet)
+        (attended {M = C.Clock} C.Reader.Inlet) (paced_outlet {M = C.Clock} C.Writer.Outlet)
         (backend_ghosts S.Worker.Health L.Links M.Clock))
         (S.begins parts.entry.seating.now idle)
         (Leaves S.Worker.Health.steps (S.gives_back parts.entry.seating.now))
@@ -108,7 +108,7 @@ fn serve_clients<R: IoRuntime, C: Source, H: Health, L: Links, M: Clock>(
     requires reach { Reaches H.servers L.servers working.old.parts }
     ensures reach { Reaches H.servers L.servers working.new.parts }
     ensures works { Works (worker_ghosts
-        (attended {M = C.Clock} C.Reader.Inlet) (paced {M = C.Clock} C.Writer.Outlet)
+        (attended {M = C.Clock} C.Reader.Inlet) (paced_outlet {M = C.Clock} C.Writer.Outlet)
         (backend_ghosts H.Health L.Links M.Clock))
         (with_share (at_work working.old) account.old.share.now)
         (with_share (at_work working.new) account.new.share.now) }
@@ -164,7 +164,7 @@ impl<'r, H: Health, L: Links, M: Clock, W: Clock> Working<'r, H, L, M, W> {
     fn round<R: IoRuntime>(&mut self, rt: &R)
         requires reach { Reaches H.servers L.servers self.old.parts }
         ensures reach { Reaches H.servers L.servers self.new.parts }
-        ensures round { (short : Bool) × IsRested (backend_ghosts H.Health L.Links M.Clock)
+        ensures round { (short : Bool) × IsRoundRun (backend_ghosts H.Health L.Links M.Clock)
             (at_work self.old) short (at_work self.new) }
     {
         let rounded = round(rt, &mut self.parts);
@@ -190,7 +190,7 @@ impl<'r, H: Health, L: Links, M: Clock, W: Clock> Working<'r, H, L, M, W> {
         requires reach { Reaches H.servers L.servers self.old.parts }
         ensures counts { result ≡ unsettled (backend_ghosts H.Health L.Links M.Clock)
             (at_work self.old) }
-        ensures settled { IsSettled (backend_ghosts H.Health L.Links M.Clock)
+        ensures settled { IsWorkSettled (backend_ghosts H.Health L.Links M.Clock)
             (at_work self.old) false (at_work self.new) }
     {
         let servers = self.parts.config.addresses().len();

@@ -18,10 +18,10 @@ use Rattle.tko_steps.specs.declared.table.Decision.TheVariants.{Goes, Answers}
 use Rattle.tko_steps.specs.declared.table.Observed.{Observed}
 use Rattle.tko_steps.specs.declared.table.Observed.TheVariants as seen
 use Rattle.tko_steps.specs.Core.{Shared, seen_by, shared_after}
-use Rattle.tko_steps.specs.Steps.{is_done, is_marked_state, state_after}
+use Rattle.tko_steps.specs.Steps.{decided_state, is_done, is_marked_state}
 use Rattle.tko_steps.specs.Table.{action_of, next_of, same_server}
 use Rattle.tko_table.specs.declared.pass.Change.{Change}
-use Rattle.tko_table.specs.declared.pass.Pass.{Pass}
+use Rattle.tko_table.specs.declared.pass.PassView.{PassView}
 use Rattle.tko_table.specs.History.{Replays, changes_in, made_by, made_with}
 use Rattle.tko_table.specs.Passes.{changes_by, decided_after, mine_after, pending, pending_at}
 use Rattle.tko_table.specs.Rule.{IsPlanned, IsPlannedAt}
@@ -37,7 +37,7 @@ use Rattle.tko_tracker.proofs.PlaceStepLemmas.{is_start, place-next, start-at-en
 use Rattle.tko_tracker.proofs.SoloLemmas.{SoloAfter, SoloAt, none-other, solo-next}
 
 -- what a call at this phase has added, where its pass was the first as it began
-pub record HasAdded (s : Settings) (first now : Pass) (call : Call) (phase : Phase) : Type 0 where
+pub record HasAdded (s : Settings) (first now : PassView) (call : Call) (phase : Phase) : Type 0 where
   pub more : List Change
   pub seen : now.seen ≡ first.seen ++ more
   pub own : made_by call.number more ≡ pending_at call phase
@@ -49,7 +49,7 @@ pub record HasAdded (s : Settings) (first now : Pass) (call : Call) (phase : Pha
   pub alone : s.threads ≡ 1 → SoloAt s call.server first.seen now.seen now.decided_at phase
 
 -- the same where the call ended
-pub record HasEnded (s : Settings) (first now : Pass) (call : Call) (answer : Reply) : Type 0 where
+pub record HasEnded (s : Settings) (first now : PassView) (call : Call) (answer : Reply) : Type 0 where
   pub at : ℕ
   pub more : List Change
   pub seen : now.seen ≡ first.seen ++ more
@@ -60,11 +60,11 @@ pub record HasEnded (s : Settings) (first now : Pass) (call : Call) (answer : Re
   pub at_once : now.steps ≡ first.steps + 1 → at ≡ length now.seen
   pub alone : s.threads ≡ 1 → (answer ≢ Contended) × (at ≡ length first.seen)
 
-abbrev pub HasAddedAfter : Settings → Pass → Pass → Call → Decision → Type 0
+abbrev pub HasAddedAfter : Settings → PassView → PassView → Call → Decision → Type 0
 HasAddedAfter s first now call (Goes lost phase) = HasAdded s first now (record call { lost = lost }) phase
 HasAddedAfter s first now call (Answers answer) = HasEnded s first now call answer
 
-pub added-none : (s : Settings) (first : Pass) (call : Call) → HasAdded s first first call Start
+pub added-none : (s : Settings) (first : PassView) (call : Call) → HasAdded s first first call Start
 added-none s first call = record { more = []; seen = sym (append-nil first.seen); own = refl; mine = refl; planned = tt; place = tt; steps = omega arith; later = λ e. cc; alone = λ one. refl }
 
 -- a thread does not lose the exchange of its own mark
@@ -85,7 +85,7 @@ sure-at s op base owned call shared read (Loosened found mark answer) knows read
     let both : seen.Done (same_server (server_at shared.servers call.server) found) ≡ seen.Done true = sym reads ∙ sure found mark refl knows.3 in cc
 sure-at s op base owned call shared read (Emptied answer) knows reads sure = tt
 
-module _ (s : Settings) (first now mid : Pass) (call : Call) (phase : Phase) (read : Observed) (has : HasAdded s first now call phase)
+module _ (s : Settings) (first now mid : PassView) (call : Call) (phase : Phase) (read : Observed) (has : HasAdded s first now call phase)
     (settings : now.settings ≡ s) (within : call.number < s.threads) (op : Op) (base owned : List ℕ) (knows : KnowsAt op call.server base owned phase)
     (step : IsStep now call phase read mid) where
   abbrev takes : Takes now call phase read mid
@@ -102,7 +102,7 @@ module _ (s : Settings) (first now mid : Pass) (call : Call) (phase : Phase) (re
 
   seen-mid : mid.seen ≡ first.seen ++ more
   seen-mid =
-      ap (λ (it : Pass). it.seen) takes.knows
+      ap (λ (it : PassView). it.seen) takes.knows
       ∙ ap (λ it. (it ++ takes.between) ++ changes) has.seen
       ∙ ap (λ it. it ++ changes) (append_assoc first.seen has.more takes.between)
       ∙ append_assoc first.seen (has.more ++ takes.between) changes
@@ -120,36 +120,36 @@ module _ (s : Settings) (first now mid : Pass) (call : Call) (phase : Phase) (re
   abbrev decision : Decision
   decision = next_of s call phase read
 
-  adds : changes_in call.number (mine_after [] call decision at) ++ pending (state_after call decision) ≡ pending_at call phase ++ changes
+  adds : changes_in call.number (mine_after [] call decision at) ++ pending (decided_state call decision) ≡ pending_at call phase ++ changes
   adds =
       let sure = sure-at s op base owned call takes.core.shared read phase knows reads-here step.sure in
       let told = told-next s call [] at takes.core.shared phase has.planned sure in
-      let P : Observed → Type 0 = λ it. changes_in call.number (mine_after [] call (next_of s call phase it) at) ++ pending (state_after call (next_of s call phase it))
+      let P : Observed → Type 0 = λ it. changes_in call.number (mine_after [] call (next_of s call phase it) at) ++ pending (decided_state call (next_of s call phase it))
       ≡ pending_at call phase ++ changes_by call phase (is_done it) in
       subst P (sym reads-here) told
 
   mine-mid : mid.mine ≡ mine_after first.mine call decision at
   mine-mid =
-      ap (λ (it : Pass). it.mine) takes.knows
+      ap (λ (it : PassView). it.mine) takes.knows
       ∙ ap (λ it. mine_after now.mine call (next_of it call phase read) at) settings
       ∙ ap (λ it. mine_after it call decision at) has.mine
 
-  planned-mid : IsPlanned s (state_after call decision)
+  planned-mid : IsPlanned s (decided_state call decision)
   planned-mid =
-      let P : Observed → Type 0 = λ it. IsPlanned s (state_after call (next_of s call phase it)) in
+      let P : Observed → Type 0 = λ it. IsPlanned s (decided_state call (next_of s call phase it)) in
       subst P (sym reads-here) (plans-next s call takes.core.shared phase has.planned)
 
   abbrev last : List ServerState
   last = (shared_after s takes.core.shared call.server (action_of call.number phase)).servers
 
   seen-is : mid.seen ≡ (now.seen ++ takes.between) ++ changes
-  seen-is = ap (λ (it : Pass). it.seen) takes.knows
+  seen-is = ap (λ (it : PassView). it.seen) takes.knows
 
   steps-is : mid.steps ≡ now.steps + 1
-  steps-is = ap (λ (it : Pass). it.steps) takes.knows
+  steps-is = ap (λ (it : PassView). it.steps) takes.knows
 
   decided-is : mid.decided_at ≡ at
-  decided-is = ap (λ (it : Pass). it.decided_at) takes.knows
+  decided-is = ap (λ (it : PassView). it.decided_at) takes.knows
 
   place-mid : PlaceAfter s call.number call.op call.server first.seen mid.seen at decision
   place-mid =
@@ -194,13 +194,13 @@ module _ (s : Settings) (first now mid : Pass) (call : Call) (phase : Phase) (re
 
   after-by : (it : Decision) → decision ≡ it → HasAddedAfter s first mid call it
   after-by (Goes lost next) is =
-      let P : Decision → Type 0 = λ d. changes_in call.number (mine_after [] call d at) ++ pending (state_after call d) ≡ pending_at call phase ++ changes in
+      let P : Decision → Type 0 = λ d. changes_in call.number (mine_after [] call d at) ++ pending (decided_state call d) ≡ pending_at call phase ++ changes in
       record {
         more = more;
         seen = seen-mid;
         own = own-mid ∙ sym (subst P is adds);
         mine = mine-mid ∙ ap (λ d. mine_after first.mine call d at) is;
-        planned = subst (λ d. IsPlanned s (state_after call d)) is planned-mid;
+        planned = subst (λ d. IsPlanned s (decided_state call d)) is planned-mid;
         place = subst (λ n. PlaceAt s call.number call.op call.server first.seen mid.seen n next) (sym decided-is)
             (subst (PlaceAfter s call.number call.op call.server first.seen mid.seen at) is place-mid);
         steps = omega (arith, has.steps, steps-is);
@@ -210,7 +210,7 @@ module _ (s : Settings) (first now mid : Pass) (call : Call) (phase : Phase) (re
             (subst (SoloAfter s call.server first.seen mid.seen at) is (alone-mid one));
       }
   after-by (Answers answer) is =
-      let P : Decision → Type 0 = λ d. changes_in call.number (mine_after [] call d at) ++ pending (state_after call d) ≡ pending_at call phase ++ changes in
+      let P : Decision → Type 0 = λ d. changes_in call.number (mine_after [] call d at) ++ pending (decided_state call d) ≡ pending_at call phase ++ changes in
       record {
         at = at;
         more = more;

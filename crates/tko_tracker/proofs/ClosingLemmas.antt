@@ -4,10 +4,10 @@ use Rattle.std.proofs.lemmas.List.{append-nil, append_assoc, length-map}
 use Rattle.std.proofs.lemmas.List.Elements.{All-append, All-cons, All-head, All-nil, All-tail}
 use Rattle.atomic_table.specs.declared.shared.Seat.{Seat}
 use Rattle.tko_steps.specs.declared.phase.ThreadState.TheVariants.{Idle}
-use Rattle.tko_steps.specs.Core.{number_of}
+use Rattle.tko_steps.specs.Core.{drawn_number}
 use Rattle.tko_table.specs.declared.pass.Change.{Change}
-use Rattle.tko_table.specs.declared.pass.Pass.{Pass}
-use Rattle.tko_table.specs.Closing.{IsDone, IsLeft, Left}
+use Rattle.tko_table.specs.declared.pass.PassView.{PassView}
+use Rattle.tko_table.specs.Closing.{ClosedContents, IsDone, IsLeftByThreads}
 use Rattle.tko_table.specs.History.{Begins, Replays, changes_in}
 use Rattle.tko_table.specs.Passes.{StandsIn, HasItsChanges, pending}
 use Rattle.tko_table.specs.Steps.{view_of}
@@ -18,14 +18,14 @@ use Rattle.tko_tracker.specs.Seated.{ArePasses, HasIdlePass, IsOf, Seated, Track
 
 -- ---- passes that stay the same
 
-same-refl : (pass : Pass) → IsSame pass pass
+same-refl : (pass : PassView) → IsSame pass pass
 same-refl pass = record { state = refl; mine = refl; seen = refl; settings = refl }
 
-are-refl : (passes : List Pass) → AreSame passes passes
+are-refl : (passes : List PassView) → AreSame passes passes
 are-refl [] = tt
 are-refl (pass ∷ passes) = (same-refl pass, are-refl passes)
 
-pub are-length : (one two : List Pass) → AreSame one two → length one ≡ length two
+pub are-length : (one two : List PassView) → AreSame one two → length one ≡ length two
 are-length [] [] are = refl
 are-length [] (two ∷ twos) are = absurd are
 are-length (one ∷ ones) [] are = absurd are
@@ -33,15 +33,15 @@ are-length (one ∷ ones) (two ∷ twos) are = ap suc (are-length ones twos are.
 
 -- ---- seats that are joined one after another
 
-abbrev pub pass_of : Seated → Pass
+abbrev pub pass_of : Seated → PassView
 pass_of it = it.pass
 
 -- the view has the first of these passes, and the others are left
-pub record IsGathered (passes : List Seated) (view : List Pass) (left : List Seated) : Type 0 where
+pub record IsGathered (passes : List Seated) (view : List PassView) (left : List Seated) : Type 0 where
   pub same : AreSame (map pass_of passes) (view ++ map pass_of left)
   pub done : All IsDone view
 
-done-first : (number : ℕ) (seat : Seat (Unit {0}) (List Pass)) (value : Seated) → HasIdlePass number seat → seated seat ≡ value
+done-first : (number : ℕ) (seat : Seat (Unit {0}) (List PassView)) (value : Seated) → HasIdlePass number seat → seated seat ≡ value
     → (view_of seat ≡ value.pass ∷ []) × All IsDone (view_of seat)
 done-first number seat value has is =
     let alone : view_of seat ≡ value.pass ∷ [] = has.has.alone ∙ ap (λ (it : Seated). it.pass ∷ []) is in
@@ -50,7 +50,7 @@ done-first number seat value has is =
       subst (All IsDone) (sym has.has.alone) (All-cons IsDone (first_pass (view_of seat)) [] done (All-nil IsDone)),
     )
 
-pub gathered-first : (passes left : List Seated) (number : ℕ) (seat : Seat (Unit {0}) (List Pass)) (value : Seated) → HasIdlePass number seat
+pub gathered-first : (passes left : List Seated) (number : ℕ) (seat : Seat (Unit {0}) (List PassView)) (value : Seated) → HasIdlePass number seat
     → seated seat ≡ value → passes ≡ value ∷ left → IsGathered passes (view_of seat) left
 gathered-first passes left number seat value has is all =
     let first = done-first number seat value has is in
@@ -60,12 +60,12 @@ gathered-first passes left number seat value has is all =
       done = first.1;
     }
 
-pub gathered-next : (passes left rest : List Seated) (view new : List Pass) (number : ℕ) (seat : Seat (Unit {0}) (List Pass)) (value : Seated)
+pub gathered-next : (passes left rest : List Seated) (view new : List PassView) (number : ℕ) (seat : Seat (Unit {0}) (List PassView)) (value : Seated)
     → IsGathered passes view left → HasIdlePass number seat → seated seat ≡ value → left ≡ value ∷ rest → new ≡ view ++ view_of seat
     → IsGathered passes new rest
 gathered-next passes left rest view new number seat value gathered has is next made =
     let first = done-first number seat value has is in
-    let both : List Pass = view ++ view_of seat in
+    let both : List PassView = view ++ view_of seat in
     let as_left : view ++ map pass_of left ≡ both ++ map pass_of rest =
     ap (λ it. view ++ map pass_of it) next ∙ sym (append_assoc view (value.pass ∷ []) (map pass_of rest))
     ∙ ap (λ it. (view ++ it) ++ map pass_of rest) (sym first.0) in
@@ -75,7 +75,7 @@ gathered-next passes left rest view new number seat value gathered has is next m
     }
 
 -- the first seat, of a pass of this tracker
-pub gathered-start : (tracker : TrackerId) (passes left : List Seated) (number : ℕ) (seat : Seat (Unit {0}) (List Pass)) (value : Seated)
+pub gathered-start : (tracker : TrackerId) (passes left : List Seated) (number : ℕ) (seat : Seat (Unit {0}) (List PassView)) (value : Seated)
     → HasIdlePass number seat → seated seat ≡ value → passes ≡ value ∷ left → All (IsOf tracker) passes
     → IsGathered passes (view_of seat) left × (seat.table_id ≡ tracker.table) × All (IsOf tracker) left
 gathered-start tracker passes left number seat value has is all of =
@@ -85,7 +85,7 @@ gathered-start tracker passes left number seat value has is all of =
       All-tail (IsOf tracker) value left of_all,
     )
 
-pub gathered-step : (tracker : TrackerId) (passes left rest : List Seated) (view new : List Pass) (number : ℕ) (seat : Seat (Unit {0}) (List Pass)) (value : Seated)
+pub gathered-step : (tracker : TrackerId) (passes left rest : List Seated) (view new : List PassView) (number : ℕ) (seat : Seat (Unit {0}) (List PassView)) (value : Seated)
     → IsGathered passes view left → HasIdlePass number seat → seated seat ≡ value → left ≡ value ∷ rest → new ≡ view ++ view_of seat
     → All (IsOf tracker) left → IsGathered passes new rest × All (IsOf tracker) rest
 gathered-step tracker passes left rest view new number seat value gathered has is next made of = (
@@ -93,7 +93,7 @@ gathered-step tracker passes left rest view new number seat value gathered has i
   All-tail (IsOf tracker) value rest (subst (All (IsOf tracker)) next of),
 )
 
-pub gathered-all : (passes left : List Seated) (view : List Pass) → IsGathered passes view left → left ≡ [] → AreJoined passes view
+pub gathered-all : (passes left : List Seated) (view : List PassView) → IsGathered passes view left → left ≡ [] → AreJoined passes view
 gathered-all passes left view gathered none =
     record {
       same = subst (AreSame (map pass_of passes)) (ap (λ it. view ++ map pass_of it) none ∙ append-nil view) gathered.same;
@@ -102,13 +102,13 @@ gathered-all passes left view gathered none =
 
 -- ---- what is left
 
-told-of : (history : List Change) (old : Seated) (new : Pass) → IsSame old.pass new → HasItsChanges history new → HasItsCalls history old
+told-of : (history : List Change) (old : Seated) (new : PassView) → IsSame old.pass new → HasItsChanges history new → HasItsCalls history old
 told-of history old new same told number idle =
     let state : new.state ≡ Idle number = same.state ∙ idle in
-    let tells = subst (λ drew. StandsIn drew history new) (ap number_of state) told in
+    let tells = subst (λ drew. StandsIn drew history new) (ap drawn_number state) told in
     tells.0 ∙ (λ i. changes_in number (same.mine i) ++ pending (state i)) ∙ append-nil (changes_in number old.pass.mine)
 
-tell-all : (history : List Change) (passes : List Seated) (view : List Pass) → AreSame (map pass_of passes) view → All (HasItsChanges history) view
+tell-all : (history : List Change) (passes : List Seated) (view : List PassView) → AreSame (map pass_of passes) view → All (HasItsChanges history) view
     → All (HasItsCalls history) passes
 tell-all history [] view same told = All-nil (HasItsCalls history)
 tell-all history (pass ∷ passes) [] same told = absurd same
@@ -116,18 +116,18 @@ tell-all history (pass ∷ passes) (new ∷ view) same told =
     All-cons (HasItsCalls history) pass passes (told-of history pass new same.0 (All-head (HasItsChanges history) new view told))
     (tell-all history passes view same.1 (All-tail (HasItsChanges history) new view told))
 
-seen-all : (history : List Change) (passes : List Seated) (view : List Pass) → AreSame (map pass_of passes) view
-    → All (λ (pass : Pass). Begins pass.seen history) view → All (λ (it : Seated). Begins it.pass.seen history) passes
+seen-all : (history : List Change) (passes : List Seated) (view : List PassView) → AreSame (map pass_of passes) view
+    → All (λ (pass : PassView). Begins pass.seen history) view → All (λ (it : Seated). Begins it.pass.seen history) passes
 seen-all history [] view same seen = All-nil (λ (it : Seated). Begins it.pass.seen history)
 seen-all history (pass ∷ passes) [] same seen = absurd same
 seen-all history (pass ∷ passes) (new ∷ view) same seen =
-    let Sees : Pass → Type 0 = λ (it : Pass). Begins it.seen history in
+    let Sees : PassView → Type 0 = λ (it : PassView). Begins it.seen history in
     All-cons (λ (it : Seated). Begins it.pass.seen history) pass passes
     (subst (λ it. Begins it history) same.0.seen (All-head Sees new view seen))
     (seen-all history passes view same.1 (All-tail Sees new view seen))
 
-pub final-is : (tracker : TrackerId) (passes : List Seated) (view : List Pass) (left : Left) → AreJoined passes view
-    → left.settings ≡ tracker.settings → IsLeft tracker.settings view left.shared → IsFinal tracker passes left
+pub final-is : (tracker : TrackerId) (passes : List Seated) (view : List PassView) (left : ClosedContents) → AreJoined passes view
+    → left.settings ≡ tracker.settings → IsLeftByThreads tracker.settings view left.shared → IsFinal tracker passes left
 final-is tracker passes view left joined settings is =
     record {
       settings = settings;
@@ -140,11 +140,11 @@ final-is tracker passes view left joined settings is =
       free = is.free;
     }
 
-pub joined-length : (passes : List Seated) (view : List Pass) → AreJoined passes view → length view ≡ length passes
+pub joined-length : (passes : List Seated) (view : List PassView) → AreJoined passes view → length view ≡ length passes
 joined-length passes view joined = sym (are-length (map pass_of passes) view joined.same) ∙ length-map passes pass_of
 
 -- where no thread made a call, nothing was changed
-pub up-at-once : (tracker : TrackerId) (passes : List Seated) (left : Left) → ArePasses tracker passes → length passes ≡ tracker.settings.threads
+pub up-at-once : (tracker : TrackerId) (passes : List Seated) (left : ClosedContents) → ArePasses tracker passes → length passes ≡ tracker.settings.threads
     → IsFinal tracker passes left → left.shared.servers ≡ (opened tracker.settings).servers
 up-at-once tracker passes left are all final =
     let other : Seated = record { pass = first_pass []; table = tracker.table } in

@@ -28,7 +28,7 @@ use Rattle.tko_steps.specs.Steps.{is_done, is_marked_state}
 use Rattle.tko_steps.specs.Table.{action_of, goes, lost_try, next_of, puts, same_server, same_slots, sets_out}
 use Rattle.tko_steps.proofs.CostLemmas.{depth, per_try}
 use Rattle.tko_steps.proofs.StartLemmas.{CanLoosen}
-use Rattle.tko_table.specs.Passes.{is_marked_by, owned_after, owned_with, owns}
+use Rattle.tko_table.specs.Passes.{is_marked_by, owned_after_action, owned_with, owns}
 use Rattle.tko_table.specs.Steps.{IsSound}
 use Rattle.tko_tracker.specs.Calls.{answers_owner, can_answer, owned_left}
 use Rattle.tko_tracker.specs.Running.{CanWrite}
@@ -216,7 +216,7 @@ module _ (s : Settings) (ranges : IsWithinRanges s) (first : ℕ) (base : List �
   abbrev pub StepNext : Shared → Phase → Type 0
   StepNext shared phase =
       let it = seen_by s shared call.server (action_of call.number phase) in
-      Next phase (next_of s call phase it) (owned_after owned call.server (action_of call.number phase) (is_done it))
+      Next phase (next_of s call phase it) (owned_after_action owned call.server (action_of call.number phase) (is_done it))
 
   exchanges : (won : Bool) (phase : Phase) (mark : Mark) (yes_then no_then : Decision)
       → (won ≡ true → Next phase yes_then (owned_with owned call.server mark)) → (won ≡ false → Next phase no_then owned)

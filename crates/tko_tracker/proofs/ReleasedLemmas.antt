@@ -12,13 +12,13 @@ use Rattle.tko_steps.specs.declared.phase.ThreadState.TheVariants.{Idle}
 use Rattle.tko_steps.specs.Steps.{begun_by}
 use Rattle.tko_steps.proofs.CountLemmas.{bit}
 use Rattle.tko_table.specs.declared.pass.Made.{Made}
-use Rattle.tko_table.specs.declared.pass.Pass.{Pass}
+use Rattle.tko_table.specs.declared.pass.PassView.{PassView}
 use Rattle.tko_table.specs.History.{made_with}
 use Rattle.tko_table.specs.Passes.{owns, without}
 use Rattle.tko_table.specs.Steps.{view_of}
 use Rattle.tko_tracker.specs.Calls.{gives, owned_left, takes}
 use Rattle.tko_tracker.specs.Owned.{AreBitsOf}
-use Rattle.tko_tracker.specs.Running.{Ran}
+use Rattle.tko_tracker.specs.Running.{RanCall}
 use Rattle.tko_tracker.specs.Seated.{Answered, HasOwnedPass, IsRelease, OwnsBelow, Retired, calls_on, Seated, TrackerId, first_pass, seated}
 use Rattle.tko_tracker.proofs.OwnedLemmas.{owns-without}
 use Rattle.tko_tracker.proofs.RetireLemmas.{IsReleased, gone, makes-more, one-more, released-is, released-mark, without-lt}
@@ -104,25 +104,25 @@ below-left answer server last owned inside below other past =
     (λ none. cond_both (gives answer) (without server owned) owned P (λ given. fewer) (λ kept. not_own))
 
 -- the pass after a call, with its bits brought up to date
-pub pass-after : (s : Settings) (number : ℕ) (words new : List ℕ) (seat after : Seat (Unit {0}) (List Pass)) (value : Seated) (op : Op) (server : ℕ)
+pub pass-after : (s : Settings) (number : ℕ) (words new : List ℕ) (seat after : Seat (Unit {0}) (List PassView)) (value : Seated) (op : Op) (server : ℕ)
     (answer : Reply) → HasOwnedPass number words seat → value ≡ seated seat → value.pass.settings ≡ s → server < s.servers
-    → after.me.1 ≡ seat.me.1 → Ran s number (view_of seat) op server answer (view_of after)
+    → after.me.1 ≡ seat.me.1 → RanCall s number (view_of seat) op server answer (view_of after)
     → ((owned : List ℕ) → AreBitsOf owned words → AreBitsOf (owned_left answer server owned) new) → HasOwnedPass number new after
 pass-after s number words new seat after value op server answer has is settings inside slots ran bits =
     let was = first_pass (view_of seat) in
     let old_is : ran.old ≡ was = sym (ap first_pass ran.was) in
     let new_is : first_pass (view_of after) ≡ ran.new = ap first_pass ran.is in
     let owned_is : (first_pass (view_of after)).owned ≡ owned_left answer server was.owned =
-    ap (λ (it : Pass). it.owned) new_is ∙ ran.owned ∙ ap (λ (it : Pass). owned_left answer server it.owned) old_is in
+    ap (λ (it : PassView). it.owned) new_is ∙ ran.owned ∙ ap (λ (it : PassView). owned_left answer server it.owned) old_is in
     let same : (first_pass (view_of after)).settings ≡ was.settings =
-    ap (λ (it : Pass). it.settings) new_is ∙ ran.settings ∙ ap (λ (it : Pass). it.settings) old_is in
+    ap (λ (it : PassView). it.settings) new_is ∙ ran.settings ∙ ap (λ (it : PassView). it.settings) old_is in
     let its : was.settings ≡ s = sym (ap (λ (it : Seated). it.pass.settings) is) ∙ settings in
     record {
       has = record {
-        alone = ran.is ∙ ap (λ (it : Pass). it ∷ []) (sym new_is);
+        alone = ran.is ∙ ap (λ (it : PassView). it ∷ []) (sym new_is);
         slots = slots ∙ has.has.slots;
         idle = record {
-          state = ap (λ (it : Pass). it.state) new_is ∙ ran.state;
+          state = ap (λ (it : PassView). it.state) new_is ∙ ran.state;
           within = subst (λ (it : Settings). number < it.threads) (sym same) has.has.idle.within;
         };
       };

@@ -11,7 +11,7 @@ use Rattle.tko_steps.specs.declared.phase.ThreadState.TheVariants.{Idle}
 use Rattle.tko_steps.specs.Steps.{begun_by}
 use Rattle.tko_steps.proofs.CountLemmas.{bit}
 use Rattle.tko_table.specs.declared.pass.Made.{Made}
-use Rattle.tko_table.specs.declared.pass.Pass.{Pass}
+use Rattle.tko_table.specs.declared.pass.PassView.{PassView}
 use Rattle.tko_table.specs.History.{changes_in, made_by, made_with}
 use Rattle.tko_table.proofs.AddedChangeLemmas.{changes_in-append, made_by-append}
 use Rattle.tko_table.specs.Passes.{owns, without}
@@ -104,7 +104,7 @@ released-mark made op is = by made.reply refl is
     by (reply.NotMine mark) same own = cc
 
 -- a pass made calls, and then one more
-pub makes-more : (first now after : Pass) (number : ℕ) (op : Op) (server : ℕ) (answer : Reply) (calls : List Made) → now.state ≡ Idle number
+pub makes-more : (first now after : PassView) (number : ℕ) (op : Op) (server : ℕ) (answer : Reply) (calls : List Made) → now.state ≡ Idle number
     → Makes number first calls now → (adds : Adds now op server answer after)
     → Makes number first (calls ++ made_with (begun_by number op server) answer adds.at ∷ []) after
 makes-more first now after number op server answer calls idle made adds =

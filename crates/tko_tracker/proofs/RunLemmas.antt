@@ -12,10 +12,10 @@ use Rattle.tko_steps.specs.declared.table.Observed.TheVariants as seen
 use Rattle.tko_steps.specs.Core.{follows}
 use Rattle.tko_steps.specs.Runs.{OwnStep}
 use Rattle.tko_steps.specs.Steps.{begun_by, in_call}
-use Rattle.tko_table.specs.declared.pass.Pass.{Pass}
+use Rattle.tko_table.specs.declared.pass.PassView.{PassView}
 use Rattle.tko_table.specs.History.{changes_in, made_by, made_with, place_of_answer}
 use Rattle.tko_tracker.specs.Tries.{HasTried, Taken, and_steps, own_steps}
-use Rattle.tko_tracker.specs.Calls.{Called, Leads}
+use Rattle.tko_tracker.specs.Calls.{Called, LeadsToAnswer}
 use Rattle.tko_tracker.specs.Running.{CanCall, IsReady}
 use Rattle.tko_tracker.specs.History.{Adds, IsAnsweredAt}
 use Rattle.tko_tracker.proofs.AddsLemmas.{HasAdded, HasEnded, added-none}
@@ -25,10 +25,10 @@ use Rattle.tko_tracker.proofs.TryLemmas.{KnowsAnywhere, begins-anywhere}
 
 -- the call of the pass that the view had first, at this phase
 pub record IsUnderWay
-    (s : Settings) (number : ℕ) (op : Op) (server : ℕ) (before : List Pass) (call : Call) (phase : Phase) (view : List Pass) : Type 0
+    (s : Settings) (number : ℕ) (op : Op) (server : ℕ) (before : List PassView) (call : Call) (phase : Phase) (view : List PassView) : Type 0
   where
-    pub first : Pass
-    pub now : Pass
+    pub first : PassView
+    pub now : PassView
     pub was : before ≡ first ∷ []
     pub is : view ≡ now ∷ []
     pub idle : first.state ≡ Idle number
@@ -46,11 +46,11 @@ pub record IsUnderWay
     pub tried : KnowsAnywhere s call own phase
     pub seen : SeenAt s call.number call.server now.seen phase
     -- what follows makes a whole call
-    pub rest : (steps : List Taken) (answer : Reply) (after : Pass) →
-        Leads now call phase steps answer after → HasTried s answer (and_steps own steps) → Called first op server answer after
+    pub rest : (steps : List Taken) (answer : Reply) (after : PassView) →
+        LeadsToAnswer now call phase steps answer after → HasTried s answer (and_steps own steps) → Called first op server answer after
 
 -- the call begins
-pub begins : (s : Settings) (number : ℕ) (op : Op) (server : ℕ) (view : List Pass) → IsWithinRanges s → CanCall s number view
+pub begins : (s : Settings) (number : ℕ) (op : Op) (server : ℕ) (view : List PassView) → IsWithinRanges s → CanCall s number view
     → IsUnderWay s number op server view (begun_by number op server) Start view
 begins s number op server view ranges can =
     record {
@@ -81,7 +81,7 @@ begins s number op server view ranges can =
           };
     }
 
-pub ready : (s : Settings) (number : ℕ) (op : Op) (server : ℕ) (before : List Pass) (call : Call) (phase : Phase) (view : List Pass)
+pub ready : (s : Settings) (number : ℕ) (op : Op) (server : ℕ) (before : List PassView) (call : Call) (phase : Phase) (view : List PassView)
     → IsUnderWay s number op server before call phase view → IsReady s view call phase
 ready s number op server before call phase view at =
     record {
@@ -93,7 +93,7 @@ ready s number op server before call phase view at =
     }
 
 -- a call that ended, by the number, operation and server that it began with
-pub ended-adds : (s : Settings) (first mid : Pass) (number : ℕ) (op : Op) (server : ℕ) (call : Call) (answer : Reply) → first.state ≡ Idle number → first.settings ≡ s
+pub ended-adds : (s : Settings) (first mid : PassView) (number : ℕ) (op : Op) (server : ℕ) (call : Call) (answer : Reply) → first.state ≡ Idle number → first.settings ≡ s
     → call.number ≡ number → call.op ≡ op → call.server ≡ server → HasEnded s first mid call answer → Adds first op server answer mid
 ended-adds s first mid number op server call answer idle same by does on ended =
     let made : made_with call answer ended.at ≡ made_with (begun_by number op server) answer ended.at =
@@ -112,5 +112,5 @@ ended-adds s first mid number op server call answer idle same by does on ended =
       alone = λ one. ended.alone (ap (λ (it : Settings). it.threads) (sym same) ∙ one);
     }
 
-pub head : (one other : Pass) → one ∷ [] ≡ other ∷ [] → one ≡ other
+pub head : (one other : PassView) → one ∷ [] ≡ other ∷ [] → one ≡ other
 head one other e = cc

@@ -23,16 +23,16 @@ use Rattle.tko_steps.specs.declared.table.Observed.{Observed}
 use Rattle.tko_steps.specs.declared.table.Observed.TheVariants as seen
 use Rattle.tko_steps.specs.Core.{CoreState, follows, seen_by}
 use Rattle.tko_steps.specs.Cost.{most_steps}
-use Rattle.tko_steps.specs.Steps.{begun_by, in_call, is_done, state_after}
+use Rattle.tko_steps.specs.Steps.{begun_by, decided_state, in_call, is_done}
 use Rattle.tko_steps.specs.Table.{action_of, next_of, sets_out}
 use Rattle.tko_steps.proofs.OwnLemmas.{act_step}
-use Rattle.tko_table.specs.declared.pass.Pass.{Pass}
+use Rattle.tko_table.specs.declared.pass.PassView.{PassView}
 use Rattle.tko_table.specs.History.{Replays}
-use Rattle.tko_table.specs.Passes.{changes_by, owned_after, owns}
+use Rattle.tko_table.specs.Passes.{changes_by, owned_after_action, owns}
 use Rattle.tko_table.specs.Steps.{IsSound}
-use Rattle.tko_tracker.specs.Tries.{HasTried, Taken, and_steps, own_step}
-use Rattle.tko_tracker.specs.Calls.{Called, GoesOn, IsStep, IsTaken, Leads, answers_owner, can_answer, owned_left}
-use Rattle.tko_tracker.specs.Running.{CanCall, Ran, Stepped}
+use Rattle.tko_tracker.specs.Tries.{HasTried, Taken, and_steps, taken_own_step}
+use Rattle.tko_tracker.specs.Calls.{CallGoesOn, Called, IsStep, IsStepTaken, LeadsToAnswer, answers_owner, can_answer, owned_left}
+use Rattle.tko_tracker.specs.Running.{CanCall, RanCall, TakesStep}
 use Rattle.tko_tracker.proofs.AddsLemmas.{HasAddedAfter, added-next}
 use Rattle.tko_tracker.proofs.KnowsLemmas.{KnowsAfter, KnowsAt, left}
 use Rattle.tko_tracker.proofs.KnowsStepLemmas.{knows-next}
@@ -41,10 +41,10 @@ use Rattle.tko_tracker.proofs.TryLemmas.{TriedAfter, slot-held, tried-next, turn
 use Rattle.tko_tracker.proofs.RunLemmas.{IsUnderWay, begins, ended-adds, head}
 
 -- what one more step makes of it
-module _ (s : Settings) (ranges : IsWithinRanges s) (number : ℕ) (op : Op) (server : ℕ) (before : List Pass) (call : Call) (phase : Phase)
-    (view : List Pass) (at : IsUnderWay s number op server before call phase view) (read : Observed) (after : List Pass)
-    (stepped : Stepped s view call phase read after) where
-  abbrev mid : Pass
+module _ (s : Settings) (ranges : IsWithinRanges s) (number : ℕ) (op : Op) (server : ℕ) (before : List PassView) (call : Call) (phase : Phase)
+    (view : List PassView) (at : IsUnderWay s number op server before call phase view) (read : Observed) (after : List PassView)
+    (stepped : TakesStep s view call phase read after) where
+  abbrev mid : PassView
   mid = stepped.new
 
   same-pass : stepped.old ≡ at.now
@@ -56,11 +56,11 @@ module _ (s : Settings) (ranges : IsWithinRanges s) (number : ℕ) (op : Op) (se
   decided : next_of at.now.settings call phase read ≡ next_of s call phase read
   decided = ap (λ it. next_of it call phase read) at.settings
 
-  state-mid : mid.state ≡ state_after call (next_of s call phase read)
-  state-mid = ap (λ (it : Pass). it.state) step.takes.knows ∙ ap (state_after call) decided
+  state-mid : mid.state ≡ decided_state call (next_of s call phase read)
+  state-mid = ap (λ (it : PassView). it.state) step.takes.knows ∙ ap (decided_state call) decided
 
   settings-mid : mid.settings ≡ s
-  settings-mid = ap (λ (it : Pass). it.settings) step.takes.knows ∙ at.settings
+  settings-mid = ap (λ (it : PassView). it.settings) step.takes.knows ∙ at.settings
 
   reads-here : read ≡ seen_by s step.takes.core.shared call.server (action_of call.number phase)
   reads-here =
@@ -70,13 +70,13 @@ module _ (s : Settings) (ranges : IsWithinRanges s) (number : ℕ) (op : Op) (se
   knows-mid =
       let takes = step.takes in
       let act = action_of call.number phase in
-      let steps : at.now.steps + 1 ≡ mid.steps = sym (ap (λ (it : Pass). it.steps) takes.knows) in
-      let owned : owned_after at.now.owned call.server act (is_done read) ≡ mid.owned = sym (ap (λ (it : Pass). it.owned) takes.knows) in
+      let steps : at.now.steps + 1 ≡ mid.steps = sym (ap (λ (it : PassView). it.steps) takes.knows) in
+      let owned : owned_after_action at.now.owned call.server act (is_done read) ≡ mid.owned = sym (ap (λ (it : PassView). it.owned) takes.knows) in
       let P : Observed → Type 0 = λ it.
       KnowsAfter s at.first.steps at.first.owned call phase (next_of s call phase it) (at.now.steps + 1)
-      (owned_after at.now.owned call.server act (is_done it)) in
+      (owned_after_action at.now.owned call.server act (is_done it)) in
       let Q : ℕ → Type 0 = λ n. KnowsAfter s at.first.steps at.first.owned call phase (next_of s call phase read) n
-      (owned_after at.now.owned call.server act (is_done read)) in
+      (owned_after_action at.now.owned call.server act (is_done read)) in
       let R : List ℕ → Type 0 = λ it. KnowsAfter s at.first.steps at.first.owned call phase (next_of s call phase read) mid.steps it in
       let next = knows-next s ranges at.first.steps at.first.owned call (subst (λ n. n < s.threads) (sym at.by) at.within) at.now.steps at.now.owned
       takes.core.shared phase (subst (IsSound s call.server) reads-here stepped.sound) (λ found mark is marked. sym reads-here ∙ step.sure found mark is marked) at.knows (takes.own call.server) in
@@ -118,10 +118,10 @@ module _ (s : Settings) (ranges : IsWithinRanges s) (number : ℕ) (op : Op) (se
       let next = seen-next s call core.shared at.now.seen step.takes.between found-here step.takes.others phase (own-here phase at.knows.at) at.seen in
       let P : Observed → Type 0 = λ it.
       SeenAfter s call.number call.server ((at.now.seen ++ step.takes.between) ++ changes_by call phase (is_done it)) (next_of s call phase it) in
-      let here : (at.now.seen ++ step.takes.between) ++ changes_by call phase (is_done read) ≡ mid.seen = sym (ap (λ (it : Pass). it.seen) step.takes.knows) in
+      let here : (at.now.seen ++ step.takes.between) ++ changes_by call phase (is_done read) ≡ mid.seen = sym (ap (λ (it : PassView). it.seen) step.takes.knows) in
       subst (λ it. SeenAfter s call.number call.server it (next_of s call phase read)) here (subst P (sym reads-here) next)
 
-  is-taken : IsTaken at.now call phase taken
+  is-taken : IsStepTaken at.now call phase taken
   is-taken =
       let found = step.takes.is_found in
       record {
@@ -142,21 +142,21 @@ module _ (s : Settings) (ranges : IsWithinRanges s) (number : ℕ) (op : Op) (se
       ap (λ (it : Settings). next_of it call phase (seen_by it core.shared call.server (action_of call.number phase))) (step.takes.is_found.settings ∙ at.settings)
       ∙ ap (next_of s call phase) (sym reads-here)
 
-  tried-mid : TriedAfter s call (own_step taken ∷ at.own) (next_of s call phase read)
+  tried-mid : TriedAfter s call (taken_own_step taken ∷ at.own) (next_of s call phase read)
   tried-mid =
       let found = step.takes.is_found in
       let next = tried-next s core thread call phase at.own at.now.steps found.is found.inside found.stands (found.settings ∙ at.settings) at.tried in
-      let count : at.now.steps + 1 ≡ mid.steps = sym (ap (λ (it : Pass). it.steps) step.takes.knows) in
+      let count : at.now.steps + 1 ≡ mid.steps = sym (ap (λ (it : PassView). it.steps) step.takes.knows) in
       let P : ℕ → Type 0 = λ n. TriedAfter s call (record { at = n; step = act_step core thread call phase } ∷ at.own) (next_of s call phase read) in
       subst P count (subst (TriedAfter s call (record { at = at.now.steps + 1; step = act_step core thread call phase } ∷ at.own)) follows-is next)
 
-  leads-mid : (decision : Decision) → next_of s call phase read ≡ decision → (steps : List Taken) (answer : Reply) (end : Pass)
-      → GoesOn call decision (λ same later. Leads mid same later steps answer end) (λ given. (steps ≡ []) × (given ≡ answer) × (mid ≡ end))
-      → HasTried s answer (and_steps (own_step taken ∷ at.own) steps)
+  leads-mid : (decision : Decision) → next_of s call phase read ≡ decision → (steps : List Taken) (answer : Reply) (end : PassView)
+      → CallGoesOn call decision (λ same later. LeadsToAnswer mid same later steps answer end) (λ given. (steps ≡ []) × (given ≡ answer) × (mid ≡ end))
+      → HasTried s answer (and_steps (taken_own_step taken ∷ at.own) steps)
       → Called at.first op server answer end
   leads-mid decision is steps answer end goes tried =
       let P : Decision → Type 0 = λ it.
-      GoesOn call it (λ same later. Leads mid same later steps answer end) (λ given. (steps ≡ []) × (given ≡ answer) × (mid ≡ end)) in
+      CallGoesOn call it (λ same later. LeadsToAnswer mid same later steps answer end) (λ given. (steps ≡ []) × (given ≡ answer) × (mid ≡ end)) in
       at.rest (taken ∷ steps) answer end (is-taken, subst P (sym (decided ∙ is)) goes) tried
 
   pub goes-on : (lost : ℕ) (next : Phase) → next_of s call phase read ≡ Goes lost next
@@ -175,18 +175,18 @@ module _ (s : Settings) (ranges : IsWithinRanges s) (number : ℕ) (op : Op) (se
           by = at.by;
           does = at.does;
           on = at.on;
-          stands = ap (λ state. in_call state op server) (state-mid ∙ ap (state_after call) is);
+          stands = ap (λ state. in_call state op server) (state-mid ∙ ap (decided_state call) is);
           knows = both.0;
           added = subst (HasAddedAfter s at.first mid call) is added-mid;
-          own = own_step taken ∷ at.own;
-          tried = subst (TriedAfter s call (own_step taken ∷ at.own)) is tried-mid;
+          own = taken_own_step taken ∷ at.own;
+          tried = subst (TriedAfter s call (taken_own_step taken ∷ at.own)) is tried-mid;
           seen = subst (SeenAfter s call.number call.server mid.seen) is seen-mid;
           rest = λ steps answer end leads tried. leads-mid (Goes lost next) is steps answer end leads tried;
         },
         both.1,
       )
 
-  pub answers : (answer : Reply) → next_of s call phase read ≡ Answers answer → Ran s number before op server answer after
+  pub answers : (answer : Reply) → next_of s call phase read ≡ Answers answer → RanCall s number before op server answer after
   answers answer is =
       let ends = subst (λ it. KnowsAfter s at.first.steps at.first.owned call phase it mid.steps mid.owned) is knows-mid in
       record {
@@ -194,9 +194,9 @@ module _ (s : Settings) (ranges : IsWithinRanges s) (number : ℕ) (op : Op) (se
         new = mid;
         was = at.was;
         is = stepped.is;
-        called = leads-mid (Answers answer) is [] answer mid (refl, refl, refl) (subst (TriedAfter s call (own_step taken ∷ at.own)) is tried-mid);
+        called = leads-mid (Answers answer) is [] answer mid (refl, refl, refl) (subst (TriedAfter s call (taken_own_step taken ∷ at.own)) is tried-mid);
         adds = ended-adds s at.first mid number op server call answer at.idle at.same at.by at.does at.on (subst (HasAddedAfter s at.first mid call) is added-mid);
-        state = state-mid ∙ ap (state_after call) is ∙ ap Idle at.by;
+        state = state-mid ∙ ap (decided_state call) is ∙ ap Idle at.by;
         settings = settings-mid ∙ sym at.same;
         steps = subst (λ it. mid.steps ≤ at.first.steps + most_steps s it) at.does ends.few;
         allowed = subst (λ it. can_answer it answer ≡ true) at.does ends.allowed;
@@ -216,9 +216,9 @@ look-stays s number stamp (Hard owner) =
     (λ mine. ap (λ it. stays (Marked (Hard it))) (sym (eqb-true owner number mine))) (λ theirs. refl)
 
 -- a look-up that took its one step
-pub looked-up : (s : Settings) (ranges : IsWithinRanges s) (number server : ℕ) (before : List Pass) (found : ServerState) (read : Observed) (after : List Pass)
-    → CanCall s number before → read ≡ seen.Server found → Stepped s before (begun_by number LookUp server) Start read after
-    → Ran s number before LookUp server (look_reply found.mark) after
+pub looked-up : (s : Settings) (ranges : IsWithinRanges s) (number server : ℕ) (before : List PassView) (found : ServerState) (read : Observed) (after : List PassView)
+    → CanCall s number before → read ≡ seen.Server found → TakesStep s before (begun_by number LookUp server) Start read after
+    → RanCall s number before LookUp server (look_reply found.mark) after
 looked-up s ranges number server before found read after can is stepped =
     let call = begun_by number LookUp server in
     answers s ranges number LookUp server before call Start before (begins s number LookUp server before ranges can) read after stepped (look_reply found.mark)

@@ -11,7 +11,7 @@ use Rattle.tko_steps.specs.declared.phase.Phase.TheVariants.{Start, Read, AtThre
 use Rattle.tko_steps.specs.declared.phase.Slots.{Slots}
 use Rattle.tko_steps.specs.declared.phase.ThreadState.{ThreadState}
 use Rattle.tko_steps.specs.declared.phase.ThreadState.TheVariants.{NotEnrolled, InCall}
-use Rattle.tko_steps.specs.declared.step.Kind.TheVariants as kind
+use Rattle.tko_steps.specs.declared.step.StepKind.TheVariants as kind
 use Rattle.tko_steps.specs.declared.step.Place.{Place}
 use Rattle.tko_steps.specs.declared.step.Place.TheVariants as place
 use Rattle.tko_steps.specs.declared.step.Stepped.TheVariants.{NoThread}
@@ -21,8 +21,8 @@ use Rattle.tko_steps.specs.declared.table.Decision.TheVariants.{Goes, Answers}
 use Rattle.tko_steps.specs.Core.{CoreState, abstract_of, after_step_from, follows, reported_from, thread_at, slots_at}
 use Rattle.tko_steps.specs.Invariant.{IsCore, holds_in}
 use Rattle.tko_steps.specs.Lost.{IsChangedSince, IsSlotOfOther, finds_no_slot, is_look}
-use Rattle.tko_steps.specs.Runs.{Moment, OwnStep, StepTaken, Took, World, count_of, steps_in, with_reported}
-use Rattle.tko_steps.specs.Steps.{answer_of, kind_of, kind_of_exchange}
+use Rattle.tko_steps.specs.Runs.{Moment, OwnStep, StepTaken, Took, World, step_count_of, steps_in, with_reported}
+use Rattle.tko_steps.specs.Steps.{decided_answer, kind_of_exchange, step_kind}
 use Rattle.tko_steps.specs.Table.{action_of}
 use Rattle.tko_steps.proofs.FamilyLemmas.{Follows, act_own}
 use Rattle.tko_steps.proofs.LoserLemmas.{passes-count_by}
@@ -47,7 +47,7 @@ turn-is core thread call phase inside stands =
     subst (λ test. P test (thread_at core thread)) (sym (lt-ltb thread (length core.threads) inside)) (subst (P true) (sym stands) refl)
 
 no-slot-exchange : (s : Settings) (core : CoreState) (thread : ℕ) (call : Call) (phase : Phase) (found new : Mark)
-    → kind_of (action_of call.number phase) ≡ kind_of_exchange found new → finds_no_slot s (act_step core thread call phase) ≡ false
+    → step_kind (action_of call.number phase) ≡ kind_of_exchange found new → finds_no_slot s (act_step core thread call phase) ≡ false
 no-slot-exchange s core thread call phase found new is = and_left _ _ (ap is_look is ∙ exchange-not_look found new)
 
 -- a look that finds no slot left finds one that another thread holds
@@ -129,14 +129,14 @@ abbrev past_of : ℕ → ℕ → ℕ → ℕ → List Moment
 past_of thread server group n =
     Took (other_step thread (place.Server server)) ∷ Took (other_step thread (place.Soft group)) ∷ looks n
 
-count-exchange : (found new : Mark) → count_of (kind_of_exchange found new) ≡ 1
+count-exchange : (found new : Mark) → step_count_of (kind_of_exchange found new) ≡ 1
 count-exchange (Up a) (Up b) = refl
 count-exchange (Up a) (Soft b) = refl
 count-exchange (Up a) (Hard b) = refl
 count-exchange (Soft a) new = refl
 count-exchange (Hard a) new = refl
 
-count-act : (call : Call) (phase : Phase) → count_of (kind_of (action_of call.number phase)) ≡ 1
+count-act : (call : Call) (phase : Phase) → step_count_of (step_kind (action_of call.number phase)) ≡ 1
 count-act call Start = refl
 count-act call (Read found mark answer) = count-exchange found.mark mark
 count-act call (AtThreshold found) = refl
@@ -219,7 +219,7 @@ module _ (s : Settings) (core : CoreState) (thread : ℕ) (call : Call) (phase :
       λ w other server soft. (follow.0, elsewhere s new w thread other (record call { lost = lost }) (own ∷ steps) server soft next follow.1)
   after-by (Answers answer) new decides follow =
       record {
-        contended = λ e. follow.0 (ap answer_of decides ∙ ap Some e);
+        contended = λ e. follow.0 (ap decided_answer decides ∙ ap Some e);
         expects = follow.1;
       }
 

@@ -19,7 +19,7 @@ use Rattle.tko_steps.specs.declared.table.Observed.TheVariants as seen
 use Rattle.tko_steps.specs.Lost.{IsSlotOfOther, finds_no_slot}
 use Rattle.tko_steps.specs.Steps.{begun_by, is_marked_state}
 use Rattle.tko_steps.specs.Table.{action_of, next_of, same_server}
-use Rattle.tko_table.specs.declared.pass.Pass.{Pass}
+use Rattle.tko_table.specs.declared.pass.PassView.{PassView}
 use Rattle.tko_table.specs.Passes.{without}
 use Rattle.tko_table.specs.Steps.{Takes}
 use Rattle.tko_tracker.specs.Tries.{HasTried, IsChangedByOthers, IsTurn, Taken, own_steps}
@@ -83,17 +83,17 @@ owned_left answer server owned =
 
 -- the step of a call at this phase: that of the core. A thread does not lose the exchange of its
 -- own mark
-pub record IsStep (before : Pass) (call : Call) (phase : Phase) (read : Observed) (after : Pass)
-    : Type 0
-  where
-    pub takes : Takes before call phase read after
-    pub sure : (found : ServerState) (mark : Mark) →
-        action_of call.number phase ≡ Exchange found mark →
-        is_marked_state found.mark ≡ true → read ≡ seen.Done true
+pub record IsStep (before : PassView) (call : Call) (phase : Phase) (read : Observed)
+    (after : PassView) : Type 0 where
+  pub takes : Takes before call phase read after
+  pub sure : (found : ServerState) (mark : Mark) →
+      action_of call.number phase ≡ Exchange found mark →
+      is_marked_state found.mark ≡ true → read ≡ seen.Done true
 
 -- the same with the step itself, which is the turn of its thread; where it is a look that finds no
 -- slot left of a group, though more marks could be settled there, another thread holds one
-pub record IsTaken (before : Pass) (call : Call) (phase : Phase) (taken : Taken) : Type 0 where
+pub record IsStepTaken (before : PassView) (call : Call) (phase : Phase) (taken : Taken)
+    : Type 0 where
   pub step : IsStep before call phase taken.read taken.after
   pub turn : IsTurn step.takes.core step.takes.is_found.thread taken.step
   pub held : (group : ℕ) →
@@ -123,26 +123,26 @@ pub record IsTaken (before : Pass) (call : Call) (phase : Phase) (taken : Taken)
       (before.seen ++ step.takes.between)
 
 -- a call goes on, or ends with a reply
-abbrev pub GoesOn : Call → Decision → (Call → Phase → Type 0) → (Reply → Type 0) → Type 0
-GoesOn call (Goes lost phase) more end = more (record call { lost = lost }) phase
-GoesOn call (Answers answer) more end = end answer
+abbrev pub CallGoesOn : Call → Decision → (Call → Phase → Type 0) → (Reply → Type 0) → Type 0
+CallGoesOn call (Goes lost phase) more end = more (record call { lost = lost }) phase
+CallGoesOn call (Answers answer) more end = end answer
 
 -- the steps of a call from this phase to its answer
-abbrev pub Leads : Pass → Call → Phase → List Taken → Reply → Pass → Type 0
-Leads before call phase [] answer after = ⊥
-Leads before call phase (step ∷ steps) answer after =
-    IsTaken before call phase step
-    × GoesOn
+abbrev pub LeadsToAnswer : PassView → Call → Phase → List Taken → Reply → PassView → Type 0
+LeadsToAnswer before call phase [] answer after = ⊥
+LeadsToAnswer before call phase (step ∷ steps) answer after =
+    IsStepTaken before call phase step
+    × CallGoesOn
     call
     (next_of before.settings call phase step.read)
-    (λ same later. Leads step.after same later steps answer after)
+    (λ same later. LeadsToAnswer step.after same later steps answer after)
     (λ given. (steps ≡ []) × (given ≡ answer) × (step.after ≡ after))
 
 -- an idle pass made a call with this answer
-pub record Called (before : Pass) (op : Op) (server : ℕ) (answer : Reply) (after : Pass) : Type 0
-  where
-    pub number : ℕ
-    pub idle : before.state ≡ Idle number
-    pub steps : List Taken
-    pub leads : Leads before (begun_by number op server) Start steps answer after
-    pub tried : HasTried before.settings answer (own_steps steps)
+pub record Called (before : PassView) (op : Op) (server : ℕ) (answer : Reply) (after : PassView)
+    : Type 0 where
+  pub number : ℕ
+  pub idle : before.state ≡ Idle number
+  pub steps : List Taken
+  pub leads : LeadsToAnswer before (begun_by number op server) Start steps answer after
+  pub tried : HasTried before.settings answer (own_steps steps)

@@ -10,7 +10,7 @@ use Rattle.tko_steps.specs.declared.phase.ThreadState.TheVariants.{Idle}
 use Rattle.tko_steps.specs.Legal.{tracker_in}
 use Rattle.tko_steps.specs.Steps.{begun_by}
 use Rattle.tko_table.specs.declared.pass.Change.{Change}
-use Rattle.tko_table.specs.declared.pass.Pass.{Pass}
+use Rattle.tko_table.specs.declared.pass.PassView.{PassView}
 use Rattle.tko_table.specs.History.{Replays, changes_in, made_by, made_with}
 
 -- the change of a call with this answer, if its answer stands for one
@@ -41,22 +41,22 @@ pub record IsAnsweredAt
 -- a call with this answer: its pass has then seen what it had seen and more; in that its thread's
 -- only change is the call's own, if its answer stands for one; and the call goes last in the
 -- thread's calls
-pub record Adds (before : Pass) (op : Op) (server : ℕ) (answer : Reply) (after : Pass) : Type 0
-  where
-    pub number : ℕ
-    pub idle : before.state ≡ Idle number
-    -- the number of changes after which its answer was decided
-    pub at : ℕ
-    pub more : List Change
-    pub seen : after.seen ≡ before.seen ++ more
-    pub own : made_by number more
-        ≡ changes_in number (made_with (begun_by number op server) answer at ∷ [])
-    pub mine : after.mine ≡ before.mine ++ made_with (begun_by number op server) answer at ∷ []
-    -- there the sequential tracker gives this reply, unless the call lost every try
-    pub decided : answer ≢ Contended →
-        IsAnsweredAt before.settings number op server answer at before.seen after.seen
-    -- it took a step; where that was its only one, its answer was decided at the end
-    pub stepped : before.steps < after.steps
-    pub at_once : after.steps ≡ before.steps + 1 → at ≡ length after.seen
-    -- with one thread alone it was decided where it began, and no try was lost
-    pub alone : before.settings.threads ≡ 1 → (answer ≢ Contended) × (at ≡ length before.seen)
+pub record Adds (before : PassView) (op : Op) (server : ℕ) (answer : Reply) (after : PassView)
+    : Type 0 where
+  pub number : ℕ
+  pub idle : before.state ≡ Idle number
+  -- the number of changes after which its answer was decided
+  pub at : ℕ
+  pub more : List Change
+  pub seen : after.seen ≡ before.seen ++ more
+  pub own : made_by number more
+      ≡ changes_in number (made_with (begun_by number op server) answer at ∷ [])
+  pub mine : after.mine ≡ before.mine ++ made_with (begun_by number op server) answer at ∷ []
+  -- there the sequential tracker gives this reply, unless the call lost every try
+  pub decided : answer ≢ Contended →
+      IsAnsweredAt before.settings number op server answer at before.seen after.seen
+  -- it took a step; where that was its only one, its answer was decided at the end
+  pub stepped : before.steps < after.steps
+  pub at_once : after.steps ≡ before.steps + 1 → at ≡ length after.seen
+  -- with one thread alone it was decided where it began, and no try was lost
+  pub alone : before.settings.threads ≡ 1 → (answer ≢ Contended) × (at ≡ length before.seen)

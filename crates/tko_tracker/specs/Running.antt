@@ -11,7 +11,7 @@ use Rattle.tko_steps.specs.declared.phase.ThreadState.TheVariants.{Idle, InCall}
 use Rattle.tko_steps.specs.declared.table.Observed.{Observed}
 use Rattle.tko_steps.specs.Cost.{most_steps}
 use Rattle.tko_steps.specs.Steps.{in_call}
-use Rattle.tko_table.specs.declared.pass.Pass.{Pass}
+use Rattle.tko_table.specs.declared.pass.PassView.{PassView}
 use Rattle.tko_table.specs.Passes.{owns}
 use Rattle.tko_table.specs.Steps.{IsSound, IsWritable}
 use Rattle.tko_tracker.specs.Calls.{Called, IsStep, answers_owner, can_answer, owned_left}
@@ -28,40 +28,41 @@ CanWrite number (Loosened found mark answer) = IsWritable found mark
 CanWrite number phase = Unit {0}
 
 -- the view's one pass may take the step of this call at this phase
-pub record IsReady (s : Settings) (view : List Pass) (call : Call) (phase : Phase) : Type 0 where
-  pub pass : Pass
+pub record IsReady (s : Settings) (view : List PassView) (call : Call) (phase : Phase)
+    : Type 0 where
+  pub pass : PassView
   pub alone : view ≡ pass ∷ []
   pub settings : pass.settings ≡ s
   pub stands : in_call pass.state call.op call.server ≡ InCall call phase
   pub writes : CanWrite call.number phase
 
 -- it took that step, which read this
-pub record Stepped
-    (s : Settings) (before : List Pass) (call : Call) (phase : Phase) (read : Observed)
-    (after : List Pass) : Type 0
+pub record TakesStep
+    (s : Settings) (before : List PassView) (call : Call) (phase : Phase) (read : Observed)
+    (after : List PassView) : Type 0
   where
-    pub old : Pass
-    pub new : Pass
+    pub old : PassView
+    pub new : PassView
     pub was : before ≡ old ∷ []
     pub is : after ≡ new ∷ []
     pub step : IsStep old call phase read new
     pub sound : IsSound s call.server read
 
 -- the view's one pass is that of a thread of this number, which makes no call
-pub record CanCall (s : Settings) (number : ℕ) (view : List Pass) : Type 0 where
-  pub pass : Pass
+pub record CanCall (s : Settings) (number : ℕ) (view : List PassView) : Type 0 where
+  pub pass : PassView
   pub alone : view ≡ pass ∷ []
   pub settings : pass.settings ≡ s
   pub state : pass.state ≡ Idle number
   pub within : number < s.threads
 
 -- that pass made a call with this answer, and makes none now
-pub record Ran
-    (s : Settings) (number : ℕ) (before : List Pass) (op : Op) (server : ℕ) (answer : Reply)
-    (after : List Pass) : Type 0
+pub record RanCall
+    (s : Settings) (number : ℕ) (before : List PassView) (op : Op) (server : ℕ) (answer : Reply)
+    (after : List PassView) : Type 0
   where
-    pub old : Pass
-    pub new : Pass
+    pub old : PassView
+    pub new : PassView
     pub was : before ≡ old ∷ []
     pub is : after ≡ new ∷ []
     pub called : Called old op server answer new

@@ -14,7 +14,7 @@ use Rattle.tko_steps.specs.declared.phase.ThreadState.TheVariants.{Idle}
 use Rattle.tko_steps.specs.Cost.{most_steps}
 use Rattle.tko_table.specs.declared.pass.Change.{Change}
 use Rattle.tko_table.specs.declared.pass.Made.{Made}
-use Rattle.tko_table.specs.declared.pass.Pass.{Pass}
+use Rattle.tko_table.specs.declared.pass.PassView.{PassView}
 use Rattle.tko_table.specs.declared.words.Words.{Words}
 use Rattle.tko_table.specs.History.{changes_in, made_by}
 use Rattle.tko_table.specs.Passes.{new_pass, owns}
@@ -34,11 +34,11 @@ tracker_of words = record { settings = words.settings; table = words.table.share
 
 -- a pass: what its thread knows, and at which table
 pub record Seated : Type 0 where
-  pub pass : Pass
+  pub pass : PassView
   pub table : TableId
 
 -- the first pass of a view
-abbrev pub first_pass : List Pass → Pass
+abbrev pub first_pass : List PassView → PassView
 first_pass [] =
     new_pass
     (record {
@@ -52,37 +52,37 @@ first_pass [] =
     })
 first_pass (pass ∷ passes) = pass
 
-abbrev pub seated : Seat (Unit {0}) (List Pass) → Seated
+abbrev pub seated : Seat (Unit {0}) (List PassView) → Seated
 seated seat = record { pass = first_pass (view_of seat); table = seat.table_id }
 
 -- the thread of this number makes no call
-pub record IsIdle (number : ℕ) (pass : Pass) : Type 0 where
+pub record IsIdle (number : ℕ) (pass : PassView) : Type 0 where
   pub state : pass.state ≡ Idle number
   pub within : number < pass.settings.threads
 
 -- the seat has the pass of this thread alone, which makes no call
-pub record HasPass (number : ℕ) (seat : Seat (Unit {0}) (List Pass)) : Type 0 where
+pub record HasPass (number : ℕ) (seat : Seat (Unit {0}) (List PassView)) : Type 0 where
   pub alone : view_of seat ≡ first_pass (view_of seat) ∷ []
   pub slots : seat.me.1 ≡ []
   pub idle : IsIdle number (first_pass (view_of seat))
 
 -- its thread owns no server
-abbrev pub OwnsNothing : Pass → Type 0
+abbrev pub OwnsNothing : PassView → Type 0
 OwnsNothing pass = (server : ℕ) → owns pass.owned server ≡ false
 
 -- its thread owns no server past the last
-abbrev pub OwnsBelow : Pass → Type 0
+abbrev pub OwnsBelow : PassView → Type 0
 OwnsBelow pass = (server : ℕ) → pass.settings.servers ≤ server → owns pass.owned server ≡ false
 
-pub record HasIdlePass (number : ℕ) (seat : Seat (Unit {0}) (List Pass)) : Type 0 where
+pub record HasIdlePass (number : ℕ) (seat : Seat (Unit {0}) (List PassView)) : Type 0 where
   pub has : HasPass number seat
   pub none : OwnsNothing (first_pass (view_of seat))
 
-pub record HasOwnedPass (number : ℕ) (words : List ℕ) (seat : Seat (Unit {0}) (List Pass)) : Type 0
-  where
-    pub has : HasPass number seat
-    pub bits : AreBitsOf (first_pass (view_of seat)).owned words
-    pub below : OwnsBelow (first_pass (view_of seat))
+pub record HasOwnedPass (number : ℕ) (words : List ℕ) (seat : Seat (Unit {0}) (List PassView))
+    : Type 0 where
+  pub has : HasPass number seat
+  pub bits : AreBitsOf (first_pass (view_of seat)).owned words
+  pub below : OwnsBelow (first_pass (view_of seat))
 
 -- the pass is one of this tracker
 pub record IsOf (tracker : TrackerId) (seated : Seated) : Type 0 where
@@ -91,7 +91,7 @@ pub record IsOf (tracker : TrackerId) (seated : Seated) : Type 0 where
 
 -- nothing has happened that the thread of this pass knows of: it owns no server and made no call,
 -- and the history that it has seen is empty
-pub record IsFresh (pass : Pass) : Type 0 where
+pub record IsFresh (pass : PassView) : Type 0 where
   pub owned : pass.owned ≡ []
   pub mine : pass.mine ≡ []
   pub seen : pass.seen ≡ []
@@ -123,7 +123,7 @@ pub record Answered
     pub owner : owns before.pass.owned server ≡ true → answers_owner op answer ≡ true
 
 -- a pass of this tracker looked a server up by one step, which found this mark
-pub record LooksUp
+pub record LookedUp
     (tracker : TrackerId) (before : Seated) (server : ℕ) (look : Look) (after : Seated) : Type 0
   where
     pub mark : Mark
@@ -142,7 +142,8 @@ calls_on server calls = count_by (λ made. made.server == server) calls
 
 -- the pass of the thread of this number made these calls, and saw their changes: in what it then
 -- has seen more of the history, its thread's changes are theirs, in order
-pub record Makes (number : ℕ) (before : Pass) (calls : List Made) (after : Pass) : Type 0 where
+pub record Makes (number : ℕ) (before : PassView) (calls : List Made) (after : PassView)
+    : Type 0 where
   pub mine : after.mine ≡ before.mine ++ calls
   pub more : List Change
   pub seen : after.seen ≡ before.seen ++ more

@@ -11,14 +11,14 @@ use Rattle.tko_steps.specs.Core.{CoreState}
 use Rattle.tko_steps.specs.Lost.{ExpectsWhatItSaw, lost_tries}
 use Rattle.tko_steps.specs.Runs.{OwnStep, Step, StepTaken, Took, happens}
 use Rattle.tko_table.specs.declared.pass.Change.{Change}
-use Rattle.tko_table.specs.declared.pass.Pass.{Pass}
+use Rattle.tko_table.specs.declared.pass.PassView.{PassView}
 use Rattle.tko_table.specs.History.{HasChangeOf, Replays, made_by}
 
 -- one step of a call: what it read, the step itself, and what the pass knew then
 pub record Taken : Type 0 where
   pub read : Observed
   pub step : StepTaken
-  pub after : Pass
+  pub after : PassView
 
 -- in this state of the core, a turn of this thread takes this step
 abbrev pub IsTurn : CoreState → ℕ → StepTaken → Type 0
@@ -26,13 +26,13 @@ IsTurn core thread step =
     (happens (record { core = core; past = [] }) (Step thread)).past ≡ Took step ∷ []
 
 -- a step with its number among the steps of its thread
-abbrev pub own_step : Taken → OwnStep
-own_step taken = record { at = taken.after.steps; step = taken.step }
+abbrev pub taken_own_step : Taken → OwnStep
+taken_own_step taken = record { at = taken.after.steps; step = taken.step }
 
 -- these steps after those, the newest first
 abbrev pub and_steps : List OwnStep → List Taken → List OwnStep
 and_steps older [] = older
-and_steps older (taken ∷ later) = and_steps (own_step taken ∷ older) later
+and_steps older (taken ∷ later) = and_steps (taken_own_step taken ∷ older) later
 
 -- the own steps of a call, the newest first
 abbrev pub own_steps : List Taken → List OwnStep

@@ -3,7 +3,7 @@ ghost use Rattle.std.specs.Prelude.{◌≡◌, ◌<◌, Some, None, if◌then◌
 ghost use Rattle.tko_model.specs.Looks.{look_reply};
 ghost use Rattle.tko_model.specs.declared.mark.Op.TheVariants as op;
 ghost use Rattle.tko_table.specs.Passes.{owns};
-ghost use Rattle.tko_tracker.specs.Seated.{Answered, IsOf, LooksUp, Retired, tracker_of};
+ghost use Rattle.tko_tracker.specs.Seated.{Answered, IsOf, LookedUp, Retired, tracker_of};
 
 use crate::pass::idle;
 use crate::run::{look_at, run};
@@ -16,7 +16,7 @@ impl Tracker {
     pub fn look_up(&self, pass: &mut Pass, server: usize) -> Look
         requires tracker { IsOf self.now pass.old }
         requires server { server < self.now.settings.servers }
-        ensures { LooksUp self.now pass.old server result pass.new }
+        ensures { LookedUp self.now pass.old server result pass.new }
     {
         let mark = look_at(&self.words, &mut pass.seat, pass.number, server);
         Look::of(server, mark)

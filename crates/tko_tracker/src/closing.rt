@@ -5,7 +5,7 @@ ghost use Rattle.std.specs.Prelude.{◌≡◌, ◌<◌, true, false, All, length
 ghost use Rattle.tko_model.specs.Tracker.{server_at};
 ghost use Rattle.tko_steps.specs.Core.{has_number};
 ghost use Rattle.tko_table.specs.Steps.{view_of};
-ghost use Rattle.tko_tracker.specs.Closing.{AreJoined, HoldsEachOnce, IsFinal, count_of, met};
+ghost use Rattle.tko_tracker.specs.Closing.{AreJoined, HoldsEachOnce, IsFinal, count_of_number, met};
 ghost use Rattle.tko_tracker.specs.Seated.{IsOf, tracker_of};
 
 use crate::{IdlePass, Pass, Tracker};
@@ -49,9 +49,9 @@ pub struct Final {
 }
 
 impl Model for Final {
-    ghost use Rattle.tko_table.specs.Closing.{Left};
+    ghost use Rattle.tko_table.specs.Closing.{ClosedContents};
 
-    ghost Value = { Left };
+    ghost Value = { ClosedContents };
 
     ghost view = { λ f. f.words };
 }
@@ -125,7 +125,7 @@ fn holds_each_once(passes: &[IdlePass], threads: u32) -> bool
 
 /// How many of the passes have this number.
 fn count_of(passes: &[IdlePass], number: u32) -> usize
-    ensures { result ≡ count_of number passes.now }
+    ensures { result ≡ count_of_number number passes.now }
 {
     let mut count = 0;
     for pass in passes {

@@ -7,7 +7,7 @@
 //! - `Final`: the marks and stamps of a tracker that was closed with the passes of all its threads.
 //! - `Named`: names one tracker for contracts.
 //!
-//! What a pass knows in contracts is a `tko_table::Pass`.
+//! What a pass knows in contracts is a `tko_table::PassView`.
 
 #![tactic(auto)]
 

@@ -3,7 +3,7 @@ ghost use Rattle.std.specs.Prelude.{◌≡◌, ◌<◌};
 ghost use Rattle.tko_model.specs.Looks.{look_reply};
 ghost use Rattle.tko_model.specs.declared.mark.Op.TheVariants as op;
 ghost use Rattle.tko_table.specs.Steps.{IsSameSeat, view_of};
-ghost use Rattle.tko_tracker.specs.Running.{CanCall, Ran};
+ghost use Rattle.tko_tracker.specs.Running.{CanCall, RanCall};
 
 use crate::step::take_step;
 use tko_model::{Mark, Op, Reply};
@@ -16,7 +16,7 @@ pub(crate) fn run(words: &Words, seat: &mut Seat, number: u32, op: Op, server: u
     requires server { server < words.now.settings.servers }
     requires idle { CanCall words.now.settings number (view_of seat.old) }
     ensures seat { IsSameSeat seat.old seat.new }
-    ensures ran { Ran words.now.settings number
+    ensures ran { RanCall words.now.settings number
         (view_of seat.old) op server result (view_of seat.new) }
 {
     let lost = 0;
@@ -48,7 +48,7 @@ pub(crate) fn look_at(words: &Words, seat: &mut Seat, number: u32, server: usize
     requires server { server < words.now.settings.servers }
     requires idle { CanCall words.now.settings number (view_of seat.old) }
     ensures seat { IsSameSeat seat.old seat.new }
-    ensures ran { Ran words.now.settings number
+    ensures ran { RanCall words.now.settings number
         (view_of seat.old) op.LookUp server (look_reply result) (view_of seat.new) }
 {
     let call = Call {

@@ -5,7 +5,7 @@ ghost use Rattle.tko_steps.specs.Table.{action_of};
 ghost use Rattle.tko_steps.specs.declared.table.Action.TheVariants.{Exchange};
 ghost use Rattle.tko_steps.specs.declared.table.Observed.TheVariants as seen;
 ghost use Rattle.tko_table.specs.Steps.{IsAt, IsSameSeat, IsShift, IsWritable, Took, view_of};
-ghost use Rattle.tko_tracker.specs.Running.{IsReady, Stepped};
+ghost use Rattle.tko_tracker.specs.Running.{IsReady, TakesStep};
 
 use tko_model::{Mark, ServerState};
 use tko_steps::{Action, Call, Observed, Phase};
@@ -17,7 +17,7 @@ pub(crate) fn take_step(words: &Words, seat: &mut Seat, call: &Call, phase: Phas
     requires server { call.now.server < words.now.settings.servers }
     requires ready { IsReady words.now.settings (view_of seat.old) call.now phase }
     ensures seat { IsSameSeat seat.old seat.new }
-    ensures step { Stepped words.now.settings
+    ensures step { TakesStep words.now.settings
         (view_of seat.old) call.now phase result (view_of seat.new) }
 {
     match phase.action(call) {

@@ -16,20 +16,20 @@ use Rattle.tko_mux.specs.declared.mux.delivery.Delivery.{Delivery}
 use Rattle.tko_mux.specs.declared.mux.delivery.Delivery.TheVariants.{Probed, Reached}
 use Rattle.tko_mux.specs.declared.mux.delivery.Done.{Done}
 use Rattle.tko_mux.specs.declared.asking.Came.TheVariants.{Unsent}
-use Rattle.tko_mux.specs.Muxes.{IsDelivered, IsMade, LeaveEnds, MuxState, Reaches, SendEnds, WaitsFor}
-use Rattle.tko_port.specs.declared.guest.Event.{Event}
-use Rattle.tko_port.specs.declared.guest.Event.TheVariants.{Leave}
+use Rattle.tko_mux.specs.Muxes.{GoesToClient, IsDelivered, IsMade, MuxState, SendEnds, TellEnds, WaitsFor}
+use Rattle.tko_port.specs.declared.guest.ClientEvent.{ClientEvent}
+use Rattle.tko_port.specs.declared.guest.ClientEvent.TheVariants.{Leave}
 use Rattle.tko_port.specs.declared.guest.Turned.TheVariants as turned
 use Rattle.tko_port.specs.declared.guest.Guest.{Guest}
-use Rattle.tko_port.specs.declared.guest.Shared.{Shared}
+use Rattle.tko_port.specs.declared.guest.SharedParts.{SharedParts}
 use Rattle.tko_port.specs.declared.guest.Turned.{Turned}
 use Rattle.tko_port.specs.declared.settling.End.{End}
 use Rattle.tko_port.specs.Guests.{IsGuestCall}
 use Rattle.tko_worker.specs.declared.ends.EndCounts.{EndCounts}
 use Rattle.tko_worker.specs.Acts.{HasActed, HaveActed, RosterAndEnds}
 use Rattle.tko_worker.specs.Counts.{MuxAndEnds}
-use Rattle.tko_worker.specs.Servers.{HasLeftNext, HasTaken, ListsReached}
-use Rattle.tko_worker.specs.Workers.{DropEnds, IsOpened, ListEnds, Sight, WorkerState}
+use Rattle.tko_worker.specs.Servers.{HasLeftNext, HasResponseTaken, ListsReached}
+use Rattle.tko_worker.specs.Workers.{DropEnds, IsClientOpened, ListEnds, Sight, WorkerState}
 use Rattle.tko_worker.specs.Workers as worker
 use Rattle.tko_worker.proofs.NotedLemmas.{leave_acts}
 
@@ -48,7 +48,7 @@ acted_on sight one two three first second = record {
 pub acted_same : {L T P : Type 0} (sight : Sight L T) (old new : RosterAndEnds L T P)
     → new.0 ≡ old.0 → new.1 ≡ old.1 → HaveActed sight old new
 acted_same {L} {T} {P} sight old new roster ends =
-    subst (λ (r : RosterState (Client (Guest L T)) (Shared P)). HaveActed sight old (r, new.1))
+    subst (λ (r : RosterState (Client (Guest L T)) (SharedParts P)). HaveActed sight old (r, new.1))
     (sym roster)
     (subst (λ (e : EndCounts). HaveActed sight old (old.0, e)) (sym ends) (acted_none sight old))
 
@@ -66,7 +66,7 @@ worker_same sight old new roster ends =
 
 -- where memory ran out for a request, its session is called once more
 send_acted : {L T P : Type 0} (sight : Sight L T) (asks_for : Guest L T → Option Request)
-    (mid new : MuxState (Guest L T) (Shared P)) (ends : EndCounts) (number due : ℕ)
+    (mid new : MuxState (Guest L T) (SharedParts P)) (ends : EndCounts) (number due : ℕ)
     (asked : Option ℕ) (stopped : Option Turned)
     → SendEnds (IsGuestCall sight.0 sight.1 sight.2) (λ guest. sight.0 guest.talk) asks_for mid
     number
@@ -74,7 +74,7 @@ send_acted : {L T P : Type 0} (sight : Sight L T) (asks_for : Guest L T → Opti
     → HaveActed sight (mid.roster, ends) (new.roster, ends)
 send_acted {L} {T} {P} sight asks_for mid new ends number due None stopped sends =
     acted_same sight (mid.roster, ends) (new.roster, ends)
-    (ap (λ (m : MuxState (Guest L T) (Shared P)). m.roster) sends.1) refl
+    (ap (λ (m : MuxState (Guest L T) (SharedParts P)). m.roster) sends.1) refl
 send_acted sight asks_for mid new ends number due (Some server) None sends =
     acted_same sight (mid.roster, ends) (new.roster, ends) sends.kept refl
 send_acted sight asks_for mid new ends number due (Some server) (Some did) sends = record {
@@ -83,8 +83,8 @@ send_acted sight asks_for mid new ends number due (Some server) (Some did) sends
 }
 
 pub made_acted : {L T P : Type 0} (sight : Sight L T) (asks_for : Guest L T → Option Request)
-    (old new : MuxState (Guest L T) (Shared P)) (ends : EndCounts) (number due : ℕ)
-    (given : Given Event) (done : Done Turned)
+    (old new : MuxState (Guest L T) (SharedParts P)) (ends : EndCounts) (number due : ℕ)
+    (given : Given ClientEvent) (done : Done Turned)
     → IsMade (IsGuestCall sight.0 sight.1 sight.2) (λ guest. sight.0 guest.talk) asks_for old number
     given due done new
     → HaveActed sight (old.roster, ends) (new.roster, ends)
@@ -99,14 +99,14 @@ made_acted sight asks_for old new ends number due given done made =
 
 -- a call, if the number has a client
 pub act_acted : {L T P : Type 0} (sight : Sight L T) (asks_for : Guest L T → Option Request)
-    (old new : MuxState (Guest L T) (Shared P)) (ends : EndCounts) (number due : ℕ)
-    (given : Given Event) (result : Option (Done Turned))
+    (old new : MuxState (Guest L T) (SharedParts P)) (ends : EndCounts) (number due : ℕ)
+    (given : Given ClientEvent) (result : Option (Done Turned))
     → IfSome result (λ done. IsMade (IsGuestCall sight.0 sight.1 sight.2)
     (λ guest. sight.0 guest.talk) asks_for old number given due done new)
     → IfNone result (new ≡ old) → HaveActed sight (old.roster, ends) (new.roster, ends)
 act_acted {L} {T} {P} sight asks_for old new ends number due given None made kept =
     acted_same sight (old.roster, ends) (new.roster, ends)
-    (ap (λ (m : MuxState (Guest L T) (Shared P)). m.roster) kept) refl
+    (ap (λ (m : MuxState (Guest L T) (SharedParts P)). m.roster) kept) refl
 act_acted sight asks_for old new ends number due given (Some done) made kept =
     made_acted sight asks_for old new ends number due given done made
 
@@ -120,7 +120,7 @@ dropped_acted {L} {T} {P} sight why old new number (worker.kept none rests same)
 dropped_acted {L} {T} {P} sight why old new number (worker.leaving kept here
     (worker.nobody none same) ends) =
     acted_same sight (old.0.roster, old.1) (new.0.roster, new.1)
-    (ap (λ (m : MuxState (Guest L T) (Shared P)). m.roster) same) ends
+    (ap (λ (m : MuxState (Guest L T) (SharedParts P)). m.roster) same) ends
 dropped_acted {L} {T} {P} sight why old new number (worker.leaving kept here (worker.noted is) ends) =
     record {
       acts = tagged number (Acted (Input (Leave why), (None, turned.Noted))) ∷ [];
@@ -156,7 +156,7 @@ reached_acted {L} {T} {P} sight old new (Some (Probed it)) numbers now is =
     (sym is.0) (acted_none sight (old.0.roster, old.1))
 
 delivered_acted : {L T P : Type 0} (sight : Sight L T) (asks_for : Guest L T → Option Request)
-    (old new : MuxState (Guest L T) (Shared P)) (ends : EndCounts) (server : ℕ) (by : Asker)
+    (old new : MuxState (Guest L T) (SharedParts P)) (ends : EndCounts) (server : ℕ) (by : Asker)
     (what : Came) (due : ℕ) (delivery : Delivery Turned)
     → IsDelivered (IsGuestCall sight.0 sight.1 sight.2) (λ guest. sight.0 guest.talk) asks_for old
     server by what due delivery new
@@ -165,21 +165,21 @@ delivered_acted sight asks_for old new ends server by what due (Reached number d
     made_acted sight asks_for old new ends number due _ done is.1
 delivered_acted {L} {T} {P} sight asks_for old new ends server by what due (Probed it) is =
     acted_same sight (old.roster, ends) (new.roster, ends)
-    (ap (λ (m : MuxState (Guest L T) (Shared P)). m.roster) is.2) refl
+    (ap (λ (m : MuxState (Guest L T) (SharedParts P)). m.roster) is.2) refl
 
 reads_acted : {L T P : Type 0} (sight : Sight L T) (asks_for : Guest L T → Option Request)
-    (mid new : MuxState (Guest L T) (Shared P)) (ends : EndCounts) (server due : ℕ)
+    (mid new : MuxState (Guest L T) (SharedParts P)) (ends : EndCounts) (server due : ℕ)
     (taken : Result (Option (Asker × Response)) ShutCause)
     (result : Result (Option (Delivery Turned)) ShutCause)
-    → Reaches (IsGuestCall sight.0 sight.1 sight.2) (λ guest. sight.0 guest.talk) asks_for mid server
+    → GoesToClient (IsGuestCall sight.0 sight.1 sight.2) (λ guest. sight.0 guest.talk) asks_for mid server
     taken due result new
     → HaveActed sight (mid.roster, ends) (new.roster, ends)
 reads_acted {L} {T} {P} sight asks_for mid new ends server due (Ok None) result reaches =
     acted_same sight (mid.roster, ends) (new.roster, ends)
-    (ap (λ (m : MuxState (Guest L T) (Shared P)). m.roster) reaches.1) refl
+    (ap (λ (m : MuxState (Guest L T) (SharedParts P)). m.roster) reaches.1) refl
 reads_acted {L} {T} {P} sight asks_for mid new ends server due (Err cause) result reaches =
     acted_same sight (mid.roster, ends) (new.roster, ends)
-    (ap (λ (m : MuxState (Guest L T) (Shared P)). m.roster) reaches.1) refl
+    (ap (λ (m : MuxState (Guest L T) (SharedParts P)). m.roster) reaches.1) refl
 reads_acted sight asks_for mid new ends server due (Ok (Some found)) result reaches =
     delivered_acted sight asks_for mid new ends server found.0 _ due reaches.0 reaches.2
 
@@ -187,7 +187,7 @@ reads_acted sight asks_for mid new ends server due (Ok (Some found)) result reac
 pub taken_acted : {L T P : Type 0} (sight : Sight L T) (asks_for : Guest L T → Option Request)
     (waits_for : WaitsFor (Guest L T)) (old new : WorkerState L T P) (server due : ℕ)
     (result : Result (Option (Delivery Turned)) ShutCause)
-    → HasTaken sight asks_for waits_for old server due result new → HasActed sight old new
+    → HasResponseTaken sight asks_for waits_for old server due result new → HasActed sight old new
 taken_acted sight asks_for waits_for old new server due result taken =
     let read = taken.read in
     acted_on sight (old.mux.roster, old.ends) (taken.mid.roster, old.ends)
@@ -198,9 +198,9 @@ taken_acted sight asks_for waits_for old new server due result taken =
     taken.listed)
 
 leaves_acted : {L T P : Type 0} (sight : Sight L T) (asks_for : Guest L T → Option Request)
-    (old new : MuxState (Guest L T) (Shared P)) (ends : EndCounts) (server due : ℕ)
+    (old new : MuxState (Guest L T) (SharedParts P)) (ends : EndCounts) (server due : ℕ)
     (result : Option (Delivery Turned))
-    → LeaveEnds (IsGuestCall sight.0 sight.1 sight.2) (λ guest. sight.0 guest.talk) asks_for old
+    → TellEnds (IsGuestCall sight.0 sight.1 sight.2) (λ guest. sight.0 guest.talk) asks_for old
     server due result new
     → HaveActed sight (old.roster, ends) (new.roster, ends)
 leaves_acted sight asks_for old new ends server due None left =
@@ -221,7 +221,7 @@ left_acted sight asks_for old new server due result left =
 
 -- a client came
 pub opened_acted : {L T P : Type 0} (sight : Sight L T) (old new : WorkerState L T P) (port : L)
-    (talk : T) (number : ℕ) → IsOpened sight old port talk number new → HasActed sight old new
+    (talk : T) (number : ℕ) → IsClientOpened sight old port talk number new → HasActed sight old new
 opened_acted sight old new port talk number is =
     acted_on sight (old.mux.roster, old.ends) (is.mid.roster, old.ends) (new.mux.roster, new.ends)
     (record {

@@ -11,16 +11,16 @@ use Rattle.tko_mux.specs.declared.client.Client.{Client}
 use Rattle.tko_mux.specs.declared.mux.delivery.Done.{Done}
 use Rattle.tko_mux.specs.Asks.{AskingActs}
 use Rattle.tko_mux.specs.Muxes.{IsMade, MuxState, SendEnds}
-use Rattle.tko_port.specs.declared.guest.Event.TheVariants.{Leave, Serve}
+use Rattle.tko_port.specs.declared.guest.ClientEvent.TheVariants.{Leave, Serve}
 use Rattle.tko_port.specs.declared.guest.Guest.{Guest}
-use Rattle.tko_port.specs.declared.guest.Shared.{Shared}
+use Rattle.tko_port.specs.declared.guest.SharedParts.{SharedParts}
 use Rattle.tko_port.specs.declared.guest.Turned.{Turned}
 use Rattle.tko_port.specs.declared.guest.Turned.TheVariants.{Ends}
 use Rattle.tko_port.specs.declared.settling.End.{End}
 use Rattle.tko_port.specs.declared.settling.End.TheVariants.{Memory}
 use Rattle.tko_port.specs.Guests.{IsGuestCall}
 use Rattle.tko_worker.specs.declared.ends.EndCounts.{EndCounts}
-use Rattle.tko_worker.specs.Counts.{MuxAndEnds, counted}
+use Rattle.tko_worker.specs.Counts.{MuxAndEnds, counted_end}
 use Rattle.tko_worker.specs.Serving.{ServeCounts}
 use Rattle.tko_worker.specs.Serving as serving
 use Rattle.tko_worker.specs.Workers.{AsksOn, DropEnds, HasLeft, HasReached, ListEnds, Sight, WasServed}
@@ -51,18 +51,18 @@ made_there acts awaited asks_for old new number due given done made =
 
 module _ {L T P : Type 0} (sight : Sight L T) (asks_for : Guest L T → Option Request)
     (number due : ℕ) where
-  asked_lead : (old new : MuxState (Guest L T) (Shared P)) (asks : List (Done Turned))
+  asked_lead : (old new : MuxState (Guest L T) (SharedParts P)) (asks : List (Done Turned))
       → Lead (AsksOn sight asks_for number due) old asks new
       → is_some (session_at new.roster.slots number) ≡ is_some (session_at old.roster.slots number)
   asked_lead old new [] same =
-      ap (λ (m : MuxState (Guest L T) (Shared P)). is_some (session_at m.roster.slots number)) same
+      ap (λ (m : MuxState (Guest L T) (SharedParts P)). is_some (session_at m.roster.slots number)) same
   asked_lead old new (done ∷ asks) (mid, first, rest) =
       asked_lead mid new asks rest
       ∙ made_there (IsGuestCall sight.0 sight.1 sight.2) (λ guest. sight.0 guest.talk) asks_for old
       mid number due (Input Serve) done first.made
 
   -- after a client was served it is still there
-  pub served_there : (old new : MuxState (Guest L T) (Shared P))
+  pub served_there : (old new : MuxState (Guest L T) (SharedParts P))
       → WasServed sight asks_for old number due new
       → is_some (session_at new.roster.slots number) ≡ is_some (session_at old.roster.slots number)
   served_there old new was =
@@ -71,7 +71,7 @@ module _ {L T P : Type 0} (sight : Sight L T) (asks_for : Guest L T → Option R
       ∙ asked_lead old was.before was.asks was.asked.leads
 
   -- a client that was served once was served
-  pub once_served : (old new : MuxState (Guest L T) (Shared P)) (done : Done Turned)
+  pub once_served : (old new : MuxState (Guest L T) (SharedParts P)) (done : Done Turned)
       → IsMade (IsGuestCall sight.0 sight.1 sight.2) (λ guest. sight.0 guest.talk) asks_for old
       number (Input Serve) due done new
       → WasServed sight asks_for old number due new
@@ -84,7 +84,7 @@ module _ {L T P : Type 0} (sight : Sight L T) (asks_for : Guest L T → Option R
   }
 
   -- and after it asked, and could go on
-  pub served_on : (old mid new : MuxState (Guest L T) (Shared P)) (asks : List (Done Turned))
+  pub served_on : (old mid new : MuxState (Guest L T) (SharedParts P)) (asks : List (Done Turned))
       → Gains (AsksOn sight asks_for number due) old asks mid
       → WasServed sight asks_for mid number due new → WasServed sight asks_for old number due new
   served_on old mid new asks asked was = record {
@@ -95,7 +95,7 @@ module _ {L T P : Type 0} (sight : Sight L T) (asks_for : Guest L T → Option R
     made = was.made;
   }
 
-  pub counts_on : (old mid new : MuxState (Guest L T) (Shared P)) (at ends now : EndCounts)
+  pub counts_on : (old mid new : MuxState (Guest L T) (SharedParts P)) (at ends now : EndCounts)
       (asks : List (Done Turned)) → Gains (AsksOn sight asks_for number due) old asks mid
       → at ≡ ends → ServeCounts sight asks_for (mid, at) number due (new, now)
       → ServeCounts sight asks_for (old, ends) number due (new, now)
@@ -108,33 +108,33 @@ module _ {L T P : Type 0} (sight : Sight L T) (asks_for : Guest L T → Option R
         served = served_on old mid has.mid asks asked has.served;
         ends = has.ends;
         left = has.left;
-      }) (counts ∙ ap (counted why) is)
+      }) (counts ∙ ap (counted_end why) is)
   counts_on old mid new at ends now asks asked is (serving.lost has counts) =
       serving.lost (record {
         mid = has.mid;
         served = served_on old mid has.mid asks asked has.served;
         left = has.left;
-      }) (counts ∙ ap (counted Memory) is)
+      }) (counts ∙ ap (counted_end Memory) is)
 
   -- a client that was served, and is served again later, is not counted
-  pub served_counts : (old new : MuxState (Guest L T) (Shared P)) (ends now : EndCounts)
+  pub served_counts : (old new : MuxState (Guest L T) (SharedParts P)) (ends now : EndCounts)
       → WasServed sight asks_for old number due new → now ≡ ends
       → ServeCounts sight asks_for (old, ends) number due (new, now)
   served_counts old new ends now was same = serving.stayed (served_there old new was) same
 
 module _ {L T P : Type 0} (sight : Sight L T) (asks_for : Guest L T → Option Request)
-    (old mid new : MuxState (Guest L T) (Shared P)) (ends now : EndCounts) (number due : ℕ) where
+    (old mid new : MuxState (Guest L T) (SharedParts P)) (ends now : EndCounts) (number due : ℕ) where
   -- after its client was to leave, a number has one exactly if it had, unless that left
   reached_there : (why : End) → HasReached sight.2 (Leave why) mid number new
       → is_some (session_at new.roster.slots number) ≡ is_some (session_at mid.roster.slots number)
   reached_there why (worker.nobody none same) =
-      ap (λ (m : MuxState (Guest L T) (Shared P)). is_some (session_at m.roster.slots number)) same
+      ap (λ (m : MuxState (Guest L T) (SharedParts P)). is_some (session_at m.roster.slots number)) same
   reached_there why (worker.noted is) =
       ap is_some is.moved.after ∙ sym (ap is_some is.moved.before)
 
   stays_served : (was : WasServed sight asks_for old number due mid) (why : End)
       → DropEnds sight why (mid, ends) number (new, now)
-      → (HasLeft sight.0 mid number new → now ≡ counted why ends
+      → (HasLeft sight.0 mid number new → now ≡ counted_end why ends
       → ServeCounts sight asks_for (old, ends) number due (new, now))
       → ServeCounts sight asks_for (old, ends) number due (new, now)
   stays_served was why (worker.kept none rests same) left =

@@ -3,11 +3,11 @@ use Rattle.std.proofs.Common.{◌≡◌, ◌≢◌, ℕ, List, [], sym, ap, subs
 use Rattle.std.specs.Prelude.{option_map}
 use Rattle.tko_roster.specs.Rosters.{session_at}
 use Rattle.tko_mux.specs.declared.client.Client.{Client}
-use Rattle.tko_mux.specs.Linking.{IsKept, awaited_by}
+use Rattle.tko_mux.specs.Linking.{IsNotForgotten, awaited_by}
 use Rattle.tko_port.specs.declared.guest.Guest.{Guest}
 use Rattle.tko_port.specs.declared.guest.Presence.TheVariants.{Leaving}
 use Rattle.tko_port.specs.declared.settling.End.{End}
-use Rattle.tko_port.specs.Guests.{RestsBy, seen}
+use Rattle.tko_port.specs.Guests.{RestsBy, guest_seen}
 use Rattle.tko_worker.specs.Workers.{RestAt, Rests, Sight}
 
 -- nobody has the number, or one that leaves and awaits a server
@@ -17,7 +17,7 @@ pub leaver_rests : {L T : Type 0} (sight : Sight L T) (slots : List (Option (Cli
     → RestAt sight slots number
 leaver_rests sight slots number client why is leaves some =
     subst (Rests sight) (sym is) (subst (λ p. RestsBy p
-    (seen sight.0 sight.1 sight.2 client.session)) (sym leaves) some)
+    (guest_seen sight.0 sight.1 sight.2 client.session)) (sym leaves) some)
 
 pub nobody_rests : {L T : Type 0} (sight : Sight L T) (slots : List (Option (Client (Guest L T))))
     (number : ℕ) → session_at slots number ≡ None → RestAt sight slots number
@@ -34,7 +34,7 @@ found_at {L} {T} (Some client) guest is =
 
 kept_awaits : {L T : Type 0} (sight : Sight L T) (slots : List (Option (Client (Guest L T))))
     (number : ℕ) (client : Client (Guest L T))
-    → IsKept (λ guest. sight.0 guest.talk) slots number → session_at slots number ≡ Some client
+    → IsNotForgotten (λ guest. sight.0 guest.talk) slots number → session_at slots number ≡ Some client
     → sight.0 client.session.talk ≢ []
 kept_awaits sight slots number client (inl none) is =
     absurd (let both = sym none ∙ is in let f : ⊥ = cc both in f)
@@ -44,7 +44,7 @@ kept_awaits sight slots number client (inr some) is = λ none.
 -- a client of which a request is under way rests, if it is to leave then
 pub kept_leaves : {L T : Type 0} (sight : Sight L T) (slots : List (Option (Client (Guest L T))))
     (number : ℕ) (guest : Guest L T) (why : End)
-    → IsKept (λ it. sight.0 it.talk) slots number
+    → IsNotForgotten (λ it. sight.0 it.talk) slots number
     → session_at slots number ≡ Some (record { session = guest }) → guest.presence ≡ Leaving why
     → RestAt sight slots number
 kept_leaves sight slots number guest why kept is leaves =

@@ -8,10 +8,10 @@ use Rattle.tko_mux.specs.declared.client.Client.{Client}
 use Rattle.tko_mux.specs.Linking.{AreLinked}
 use Rattle.tko_mux.specs.Muxes.{MuxState}
 use Rattle.tko_port.specs.declared.guest.Guest.{Guest}
-use Rattle.tko_port.specs.declared.guest.Shared.{Shared}
+use Rattle.tko_port.specs.declared.guest.SharedParts.{SharedParts}
 use Rattle.tko_port.specs.Lives.{IsGuestReady}
 use Rattle.tko_port.specs.Talks.{Readiness}
-use Rattle.tko_worker.specs.Workers.{IsIn, IsInOrder, IsListed, IsServed, NobodyForgotten}
+use Rattle.tko_worker.specs.Workers.{IsIn, IsInOrder, IsNotedToServe, IsNumberServed, NobodyForgotten}
 use Rattle.tko_worker.specs.Workers.{OthersStay, RestAt, Rests, Sight, WorkerState}
 
 in_last : (number : ℕ) (list : List ℕ) → IsIn number (list ++ number ∷ [])
@@ -45,11 +45,11 @@ others_known sight old new number other left spent now_spent apart stay more (in
 
 -- once the last of those that are to be served was served, nobody is forgotten
 pub one_served : {L T P : Type 0} (sight : Sight L T) (asks_for : Guest L T → Option Request)
-    (old new : MuxState (Guest L T) (Shared P)) (number due : ℕ)
+    (old new : MuxState (Guest L T) (SharedParts P)) (number due : ℕ)
     (touched left spent now_spent : List ℕ)
     → NobodyForgotten sight old.roster.slots touched spent → touched ≡ left ++ number ∷ []
     → OthersStay number old.roster.slots new.roster.slots
-    → IsServed sight asks_for old number due new spent now_spent
+    → IsNumberServed sight asks_for old number due new spent now_spent
     → NobodyForgotten sight new.roster.slots left now_spent
 one_served sight asks_for old new number due touched left spent now_spent nobody is stay (inl rests)
     other =
@@ -96,7 +96,7 @@ pub one_listed : {L T : Type 0} (sight : Sight L T)
     (old mid new : List (Option (Client (Guest L T))))
     (number : ℕ) (touched now_touched spent : List ℕ) → NobodyForgotten sight old touched spent
     → OthersStay number old mid → OthersStay number mid new
-    → IsListed sight new number touched now_touched
+    → IsNotedToServe sight new number touched now_touched
     → NobodyForgotten sight new now_touched spent
 one_listed sight old mid new number touched now_touched spent nobody first second (inl rests)
     other =

@@ -10,9 +10,9 @@ use Rattle.tko_pipe.specs.declared.waiter.Asker.{Asker}
 use Rattle.tko_mux.specs.declared.asking.Came.{Came}
 use Rattle.tko_mux.specs.declared.mux.delivery.Delivery.{Delivery}
 use Rattle.tko_mux.specs.declared.mux.delivery.Delivery.TheVariants.{Probed, Reached}
-use Rattle.tko_mux.specs.Muxes.{IsDelivered, IsRead, LeaveEnds, MuxState, Reaches, WaitsFor}
+use Rattle.tko_mux.specs.Muxes.{GoesToClient, IsDelivered, IsResponseRead, MuxState, TellEnds, WaitsFor}
 use Rattle.tko_port.specs.declared.guest.Guest.{Guest}
-use Rattle.tko_port.specs.declared.guest.Shared.{Shared}
+use Rattle.tko_port.specs.declared.guest.SharedParts.{SharedParts}
 use Rattle.tko_port.specs.declared.guest.Turned.{Turned}
 use Rattle.tko_port.specs.Guests.{IsGuestCall}
 use Rattle.tko_worker.specs.Workers.{IsIn, IsListedFor, NobodyForgotten, OthersStayFor, RestAt}
@@ -22,7 +22,7 @@ use Rattle.tko_worker.proofs.ListedLemmas.{one_listed}
 
 -- nobody else's session changes by what came
 pub delivered_others : {L T P : Type 0} (sight : Sight L T)
-    (asks_for : Guest L T → Option Request) (old new : MuxState (Guest L T) (Shared P))
+    (asks_for : Guest L T → Option Request) (old new : MuxState (Guest L T) (SharedParts P))
     (server : ℕ) (by : Asker) (what : Came) (due : ℕ) (delivery : Delivery Turned)
     → IsDelivered (IsGuestCall sight.0 sight.1 sight.2) (λ guest. sight.0 guest.talk) asks_for old
     server by what due delivery new
@@ -31,7 +31,7 @@ delivered_others sight asks_for old new server by what due (Reached number done)
     made_others (IsGuestCall sight.0 sight.1 sight.2) (λ guest. sight.0 guest.talk) asks_for old new
     number due _ done is.1
 delivered_others {L} {T} {P} sight asks_for old new server by what due (Probed it) is =
-    λ other. ap (λ (m : MuxState (Guest L T) (Shared P)). session_at m.roster.slots other) is.2
+    λ other. ap (λ (m : MuxState (Guest L T) (SharedParts P)). session_at m.roster.slots other) is.2
 
 same_rest : {L T : Type 0} (sight : Sight L T) (old new : List (Option (Client (Guest L T))))
     (number : ℕ) (B : Type 0) → session_at new number ≡ session_at old number
@@ -58,17 +58,17 @@ one_reached sight old mid new (Probed it) touched now_touched spent nobody first
 
 -- the next that left, or none: nobody else's session changes
 pub leave_others : {L T P : Type 0} (sight : Sight L T) (asks_for : Guest L T → Option Request)
-    (old new : MuxState (Guest L T) (Shared P)) (server due : ℕ) (delivery : Delivery Turned)
+    (old new : MuxState (Guest L T) (SharedParts P)) (server due : ℕ) (delivery : Delivery Turned)
     (result : Option (Delivery Turned))
-    → LeaveEnds (IsGuestCall sight.0 sight.1 sight.2) (λ guest. sight.0 guest.talk) asks_for old
+    → TellEnds (IsGuestCall sight.0 sight.1 sight.2) (λ guest. sight.0 guest.talk) asks_for old
     server due result new
     → result ≡ Some delivery
     → OthersStayFor delivery old.roster.slots new.roster.slots
 leave_others {L} {T} {P} sight asks_for old new server due delivery result ends is =
-    let told : LeaveEnds (IsGuestCall sight.0 sight.1 sight.2) (λ guest. sight.0 guest.talk)
+    let told : TellEnds (IsGuestCall sight.0 sight.1 sight.2) (λ guest. sight.0 guest.talk)
     asks_for
     old server due (Some delivery) new =
-    subst (λ r. LeaveEnds (IsGuestCall sight.0 sight.1 sight.2) (λ guest. sight.0 guest.talk)
+    subst (λ r. TellEnds (IsGuestCall sight.0 sight.1 sight.2) (λ guest. sight.0 guest.talk)
     asks_for old server due r new) is ends in
     delivered_others sight asks_for (record old { lines = told.lines }) new server told.by _ due
     delivery
@@ -76,9 +76,9 @@ leave_others {L} {T} {P} sight asks_for old new server due delivery result ends 
 
 -- a response that was read, or none: nobody else's session changes
 pub read_others : {L T P : Type 0} (sight : Sight L T) (asks_for : Guest L T → Option Request)
-    (mid new : MuxState (Guest L T) (Shared P)) (server due : ℕ) (delivery : Delivery Turned)
+    (mid new : MuxState (Guest L T) (SharedParts P)) (server due : ℕ) (delivery : Delivery Turned)
     (taken : Result (Option (Asker × Response)) ShutCause)
-    → Reaches (IsGuestCall sight.0 sight.1 sight.2)
+    → GoesToClient (IsGuestCall sight.0 sight.1 sight.2)
     (λ guest. sight.0 guest.talk) asks_for mid server
     taken due (Ok (Some delivery)) new
     → OthersStayFor delivery mid.roster.slots new.roster.slots
@@ -93,10 +93,10 @@ read_others sight asks_for mid new server due delivery (Ok (Some found)) reaches
 
 -- where no response came, the sessions stay
 pub unread_roster : {L T P : Type 0} (sight : Sight L T) (asks_for : Guest L T → Option Request)
-    (mid new : MuxState (Guest L T) (Shared P)) (server due : ℕ)
+    (mid new : MuxState (Guest L T) (SharedParts P)) (server due : ℕ)
     (taken : Result (Option (Asker × Response)) ShutCause)
     (result : Result (Option (Delivery Turned)) ShutCause)
-    → Reaches (IsGuestCall sight.0 sight.1 sight.2)
+    → GoesToClient (IsGuestCall sight.0 sight.1 sight.2)
     (λ guest. sight.0 guest.talk) asks_for mid server
     taken due result new
     → ((delivery : Delivery Turned) → result ≡ Ok (Some delivery) → ⊥)
@@ -109,26 +109,26 @@ unread_roster sight asks_for mid new server due (Ok (Some found)) result reaches
     absurd (none reaches.0 reaches.1)
 
 pub take_others : {L T P : Type 0} (sight : Sight L T) (asks_for : Guest L T → Option Request)
-    (waits_for : WaitsFor (Guest L T)) (old new : MuxState (Guest L T) (Shared P)) (server due : ℕ)
+    (waits_for : WaitsFor (Guest L T)) (old new : MuxState (Guest L T) (SharedParts P)) (server due : ℕ)
     (delivery : Delivery Turned)
     (result : Result (Option (Delivery Turned)) ShutCause)
-    → IsRead (IsGuestCall sight.0 sight.1 sight.2) (λ guest. sight.0 guest.talk) asks_for
+    → IsResponseRead (IsGuestCall sight.0 sight.1 sight.2) (λ guest. sight.0 guest.talk) asks_for
     waits_for old server due result new
     → result ≡ Ok (Some delivery)
     → OthersStayFor delivery old.roster.slots new.roster.slots
 take_others sight asks_for waits_for old new server due delivery result read is =
     read_others sight asks_for (record old { lines = read.lines }) new server due delivery
     read.taken
-    (subst (λ r. Reaches (IsGuestCall sight.0 sight.1 sight.2) (λ guest. sight.0 guest.talk)
+    (subst (λ r. GoesToClient (IsGuestCall sight.0 sight.1 sight.2) (λ guest. sight.0 guest.talk)
     asks_for
     (record old { lines = read.lines }) server read.taken due r new) is read.reaches)
 
 -- where no response came, nobody is forgotten
 pub unread_nobody : {L T P : Type 0} (sight : Sight L T) (asks_for : Guest L T → Option Request)
-    (waits_for : WaitsFor (Guest L T)) (old new : MuxState (Guest L T) (Shared P)) (server due : ℕ)
+    (waits_for : WaitsFor (Guest L T)) (old new : MuxState (Guest L T) (SharedParts P)) (server due : ℕ)
     (touched spent : List ℕ)
     (result : Result (Option (Delivery Turned)) ShutCause)
-    → IsRead (IsGuestCall sight.0 sight.1 sight.2) (λ guest. sight.0 guest.talk) asks_for
+    → IsResponseRead (IsGuestCall sight.0 sight.1 sight.2) (λ guest. sight.0 guest.talk) asks_for
     waits_for old server due result new
     → ((delivery : Delivery Turned) → result ≡ Ok (Some delivery) → ⊥)
     → NobodyForgotten sight old.roster.slots touched spent
@@ -138,5 +138,5 @@ unread_nobody {L} {T} {P} sight asks_for waits_for old new server due touched sp
     let same : new.roster ≡ old.roster =
     unread_roster sight asks_for (record old { lines = read.lines }) new server due read.taken
     result read.reaches none in
-    subst (λ (r : RosterState (Client (Guest L T)) (Shared P)).
+    subst (λ (r : RosterState (Client (Guest L T)) (SharedParts P)).
     NobodyForgotten sight r.slots touched spent) (sym same) nobody

@@ -10,18 +10,18 @@ use Rattle.tko_mux.specs.declared.client.Client.{Client}
 use Rattle.tko_mux.specs.declared.mux.delivery.Done.{Done}
 use Rattle.tko_mux.specs.Asks.{AskingActs}
 use Rattle.tko_mux.specs.Muxes.{IsMade, MuxState, SendEnds}
-use Rattle.tko_port.specs.declared.guest.Event.TheVariants.{Serve}
+use Rattle.tko_port.specs.declared.guest.ClientEvent.TheVariants.{Serve}
 use Rattle.tko_port.specs.declared.guest.Guest.{Guest}
 use Rattle.tko_port.specs.declared.guest.Presence.{Presence}
 use Rattle.tko_port.specs.declared.guest.Presence.TheVariants.{Here, Leaving}
-use Rattle.tko_port.specs.declared.guest.Shared.{Shared}
+use Rattle.tko_port.specs.declared.guest.SharedParts.{SharedParts}
 use Rattle.tko_port.specs.declared.guest.Turned.{Turned}
 use Rattle.tko_port.specs.declared.guest.Turned.TheVariants as turned
-use Rattle.tko_port.specs.Guests.{IsGuestCall, RestsBy, Seen, ServedAs, ServesAs, presence_of, seen}
+use Rattle.tko_port.specs.Guests.{IsGuestCall, RestsBy, Seen, ServedAs, ServesAs, guest_seen, presence_of}
 use Rattle.tko_port.specs.Ports.{PortState}
 use Rattle.tko_port.specs.Rests.{AtRest, RestsAt}
 use Rattle.tko_port.specs.Talks.{Talk}
-use Rattle.tko_worker.specs.Workers.{IsListed, IsServed, RestAt, Rests, Sight, WasServed}
+use Rattle.tko_worker.specs.Workers.{IsNotedToServe, IsNumberServed, RestAt, Rests, Sight, WasServed}
 
 -- one that was served, and found to rest or to wait for what it asked
 abbrev pub WasFoundResting : Turned → Type 0
@@ -61,7 +61,7 @@ send_kept acts awaited asks_for mid new number due (Some server) (Some did) none
 
 -- a client that was found to rest does
 pub served_rests : {L T P : Type 0} (sight : Sight L T)
-    (asks_for : Guest L T → Option Request) (old new : MuxState (Guest L T) (Shared P))
+    (asks_for : Guest L T → Option Request) (old new : MuxState (Guest L T) (SharedParts P))
     (number due : ℕ) (done : Done Turned)
     → IsMade (IsGuestCall sight.0 sight.1 sight.2) (λ guest. sight.0 guest.talk) asks_for old number
     (Input Serve) due done new
@@ -69,8 +69,8 @@ pub served_rests : {L T P : Type 0} (sight : Sight L T)
 served_rests {L} {T} {P} sight asks_for old new number due done made sent rests =
     let call = made.called in
     let does = found_here call.was.session.presence made.asked done.did
-    (seen sight.0 sight.1 sight.2 call.was.session)
-    (seen sight.0 sight.1 sight.2 call.now.session) rests call.made.made.did in
+    (guest_seen sight.0 sight.1 sight.2 call.was.session)
+    (guest_seen sight.0 sight.1 sight.2 call.now.session) rests call.made.made.did in
     let at_rest : AtRest (sight.0 call.now.session.talk) (sight.1 call.now.session.talk)
     (sight.2 call.now.session.port) =
     found_rests done.did (sight.0 call.now.session.talk) (sight.1 call.now.session.talk)
@@ -79,17 +79,17 @@ served_rests {L} {T} {P} sight asks_for old new number due done made sent rests 
     send_kept (IsGuestCall sight.0 sight.1 sight.2) (λ guest. sight.0 guest.talk) asks_for
     (record old { roster = made.mid }) new number due made.asked done.stopped sent made.sends in
     let here : session_at new.roster.slots number ≡ Some call.now =
-    ap (λ (r : RosterState (Client (Guest L T)) (Shared P)). session_at r.slots number) roster
+    ap (λ (r : RosterState (Client (Guest L T)) (SharedParts P)). session_at r.slots number) roster
     ∙ call.moved.after in
     subst (Rests sight) (sym here) (subst (λ p. RestsBy p
-    (seen sight.0 sight.1 sight.2 call.now.session)) (sym does.1) at_rest)
+    (guest_seen sight.0 sight.1 sight.2 call.now.session)) (sym does.1) at_rest)
 
 -- one that was served, and noted unless it rests
 pub served_after : {L T P : Type 0} (sight : Sight L T) (asks_for : Guest L T → Option Request)
-    (old mid new : MuxState (Guest L T) (Shared P)) (number due : ℕ) (spent now_spent : List ℕ)
+    (old mid new : MuxState (Guest L T) (SharedParts P)) (number due : ℕ) (spent now_spent : List ℕ)
     → WasServed sight asks_for old number due mid
-    → IsListed sight new.roster.slots number spent now_spent
-    → IsServed sight asks_for old number due new spent now_spent
+    → IsNotedToServe sight new.roster.slots number spent now_spent
+    → IsNumberServed sight asks_for old number due new spent now_spent
 served_after sight asks_for old mid new number due spent now_spent was (inl rests) = inl rests
 served_after sight asks_for old mid new number due spent now_spent was (inr is) =
     inr ((mid, was), is)

@@ -8,7 +8,7 @@ use Rattle.tko_mux.specs.Asks.{IsCall}
 use Rattle.tko_port.specs.declared.settling.End.{End}
 use Rattle.tko_port.specs.Guests.{IsGuestCall}
 use Rattle.tko_worker.specs.declared.ends.EndCounts.{EndCounts}
-use Rattle.tko_worker.specs.Acts.{ClientAct, CountsAct, HasActed, HasServed, IsClientStep, RosterAndEnds, all_counted, left_in, one_left}
+use Rattle.tko_worker.specs.Acts.{ClientAct, CountsAct, HasActed, HasServed, IsClientStep, RosterAndEnds, all_counted, clients_left_in, one_left}
 use Rattle.tko_worker.specs.Workers.{Sight, WorkerState}
 
 counted-append : (whys others : List End) (ends : EndCounts)
@@ -35,7 +35,7 @@ record ActsApart {L T P : Type 0} (sight : Sight L T) (old : RosterAndEnds L T P
   leads : Lead (IsRosterStep (IsCall (IsGuestCall sight.0 sight.1 sight.2)
       (λ guest. sight.0 guest.talk)) (λ client. sight.0 client.session.talk)) old.0 acts new.0
   whys : List End
-  each : length whys ≡ left_in acts
+  each : length whys ≡ clients_left_in acts
   ends : new.1 ≡ all_counted whys old.1
 
 apart : {L T P : Type 0} (sight : Sight L T) (old : RosterAndEnds L T P)

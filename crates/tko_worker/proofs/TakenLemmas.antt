@@ -15,13 +15,13 @@ use Rattle.tko_mux.specs.declared.client.Client.{Client}
 use Rattle.tko_mux.specs.declared.mux.delivery.Delivery.{Delivery}
 use Rattle.tko_mux.specs.Asks.{AskingActs}
 use Rattle.tko_mux.specs.Lines.{LineState, first_on, line_by}
-use Rattle.tko_mux.specs.Muxes.{IsOnLine, IsRead, LeaveEnds, MuxState, Reaches, ReadsFirst, ReadsOn, WaitsFor}
+use Rattle.tko_mux.specs.Muxes.{GoesToClient, IsOnLine, IsResponseRead, MuxState, ReadsFirst, ReadsOn, TellEnds, WaitsFor}
 use Rattle.tko_port.specs.Peers.{delivery_in}
 use Rattle.tko_port.specs.declared.guest.Guest.{Guest}
-use Rattle.tko_port.specs.declared.guest.Shared.{Shared}
+use Rattle.tko_port.specs.declared.guest.SharedParts.{SharedParts}
 use Rattle.tko_port.specs.declared.guest.Turned.{Turned}
 use Rattle.tko_port.specs.Guests.{IsGuestCall}
-use Rattle.tko_worker.specs.Servers.{AwaitsMore, HasLeftNext, HasNoResponse, HasTaken, ListsReached, pipe_at}
+use Rattle.tko_worker.specs.Servers.{AwaitsMore, HasLeftNext, HasNoResponse, HasResponseTaken, ListsReached, pipe_at}
 use Rattle.tko_worker.specs.declared.ends.EndCounts.{EndCounts}
 use Rattle.tko_worker.specs.Counts.{MuxAndEnds}
 use Rattle.tko_worker.specs.Workers.{Sight, WorkerState}
@@ -65,7 +65,7 @@ none_by : {S P I O : Type 0} (acts : AskingActs S P I O) (awaited : S → List �
     (asks_for : S → Option Request) (waits_for : WaitsFor S) (old new : MuxState S P)
     (lines : List LineState) (server due : ℕ) (taken : Result (Option (Asker × Response)) ShutCause)
     → IsOnLine (λ was now. ReadsOn waits_for old.roster server was taken now) old.lines server lines
-    → Reaches acts awaited asks_for (record old { lines = lines }) server taken due
+    → GoesToClient acts awaited asks_for (record old { lines = lines }) server taken due
     (Ok None) new
     → HasNoResponse waits_for new server
 none_by {S} {P} acts awaited asks_for waits_for old new lines server due (Ok None) on reaches =
@@ -79,7 +79,7 @@ none_by acts awaited asks_for waits_for old new lines server due (Ok (Some taken
 none_read : {S P I O : Type 0} (acts : AskingActs S P I O) (awaited : S → List ℕ)
     (asks_for : S → Option Request) (waits_for : WaitsFor S) (old new : MuxState S P)
     (server due : ℕ)
-    → IsRead acts awaited asks_for waits_for old server due (Ok None) new
+    → IsResponseRead acts awaited asks_for waits_for old server due (Ok None) new
     → HasNoResponse waits_for new server
 none_read acts awaited asks_for waits_for old new server due read =
     none_by acts awaited asks_for waits_for old new read.lines server due read.taken read.on read.reaches
@@ -87,43 +87,43 @@ none_read acts awaited asks_for waits_for old new server due read =
 pub none_taken : {L T P : Type 0} (sight : Sight L T) (asks_for : Guest L T → Option Request)
     (waits_for : WaitsFor (Guest L T))
     (old new : WorkerState L T P) (server due : ℕ)
-    → HasTaken sight asks_for waits_for old server due (Ok None) new
+    → HasResponseTaken sight asks_for waits_for old server due (Ok None) new
     → HasNoResponse waits_for new.mux server
 none_taken {L} {T} {P} sight asks_for waits_for old new server due taken =
-    subst (λ (m : MuxState (Guest L T) (Shared P)). HasNoResponse waits_for m server)
+    subst (λ (m : MuxState (Guest L T) (SharedParts P)). HasNoResponse waits_for m server)
     (sym (ap (λ (p : MuxAndEnds L T P). p.0) taken.listed.0))
     (none_read (IsGuestCall sight.0 sight.1 sight.2) (λ guest. sight.0 guest.talk) asks_for
     waits_for old.mux taken.mid server due taken.read)
 
 pub taken_by : {L T P : Type 0} (sight : Sight L T) (asks_for : Guest L T → Option Request)
     (waits_for : WaitsFor (Guest L T))
-    (inside old : WorkerState L T P) (mid mux : MuxState (Guest L T) (Shared P)) (touched : List ℕ)
+    (inside old : WorkerState L T P) (mid mux : MuxState (Guest L T) (SharedParts P)) (touched : List ℕ)
     (ends : EndCounts) (server due : ℕ) (result told : Result (Option (Delivery Turned)) ShutCause)
     → inside ≡ old
     → result ≡ told
-    → IsRead (IsGuestCall sight.0 sight.1 sight.2) (λ guest. sight.0 guest.talk) asks_for
+    → IsResponseRead (IsGuestCall sight.0 sight.1 sight.2) (λ guest. sight.0 guest.talk) asks_for
     waits_for inside.mux server due result mid
     → ListsReached sight (mid, inside.ends) (delivery_in told) inside.touched (mux, ends) touched
-    → HasTaken sight asks_for waits_for old server due told
+    → HasResponseTaken sight asks_for waits_for old server due told
     (record { mux = mux; touched = touched; spent = inside.spent; ends = ends })
 taken_by {L} {T} {P} sight asks_for waits_for inside old mid mux touched ends server due result told same is
     read
     listed =
-    subst (λ (w : WorkerState L T P). HasTaken sight asks_for waits_for w server due told
+    subst (λ (w : WorkerState L T P). HasResponseTaken sight asks_for waits_for w server due told
     (record { mux = mux; touched = touched; spent = inside.spent; ends = ends })) same
     (record {
       mid = mid;
-      read = subst (λ r. IsRead (IsGuestCall sight.0 sight.1 sight.2)
+      read = subst (λ r. IsResponseRead (IsGuestCall sight.0 sight.1 sight.2)
           (λ guest. sight.0 guest.talk) asks_for waits_for inside.mux server due r mid) is read;
       listed = listed;
       spent = refl;
     })
 
 pub left_by : {L T P : Type 0} (sight : Sight L T) (asks_for : Guest L T → Option Request)
-    (inside old : WorkerState L T P) (mid mux : MuxState (Guest L T) (Shared P)) (touched : List ℕ)
+    (inside old : WorkerState L T P) (mid mux : MuxState (Guest L T) (SharedParts P)) (touched : List ℕ)
     (ends : EndCounts) (server due : ℕ) (result told : Option (Delivery Turned)) → inside ≡ old →
     result ≡ told
-    → LeaveEnds (IsGuestCall sight.0 sight.1 sight.2) (λ guest. sight.0 guest.talk) asks_for
+    → TellEnds (IsGuestCall sight.0 sight.1 sight.2) (λ guest. sight.0 guest.talk) asks_for
     inside.mux server due result mid
     → ListsReached sight (mid, inside.ends) told inside.touched (mux, ends) touched
     → HasLeftNext sight asks_for old server due told
@@ -135,7 +135,7 @@ left_by {L} {T} {P} sight asks_for inside old mid mux touched ends server due re
     (record { mux = mux; touched = touched; spent = inside.spent; ends = ends })) same
     (record {
       mid = mid;
-      left = subst (λ r. LeaveEnds (IsGuestCall sight.0 sight.1 sight.2)
+      left = subst (λ r. TellEnds (IsGuestCall sight.0 sight.1 sight.2)
           (λ guest. sight.0 guest.talk) asks_for inside.mux server due r mid) is left;
       listed = listed;
       spent = refl;
@@ -146,12 +146,12 @@ pub none_unless : {L T P : Type 0} (sight : Sight L T) (asks_for : Guest L T →
     (waits_for : WaitsFor (Guest L T))
     (old new : WorkerState L T P) (server due : ℕ)
     (result : Result (Option (Delivery Turned)) ShutCause) (more : Bool)
-    → OnFalse more (result ≡ Ok None) → HasTaken sight asks_for waits_for old server due result new
+    → OnFalse more (result ≡ Ok None) → HasResponseTaken sight asks_for waits_for old server due result new
     → OnFalse more (HasNoResponse waits_for new.mux server)
 none_unless sight asks_for waits_for old new server due result true none taken = tt
 none_unless sight asks_for waits_for old new server due result false none taken =
     none_taken sight asks_for waits_for old new server due
-    (subst (λ r. HasTaken sight asks_for waits_for old server due r new) none taken)
+    (subst (λ r. HasResponseTaken sight asks_for waits_for old server due r new) none taken)
 
 pub none_kept : {L T P : Type 0} (waits_for : WaitsFor (Guest L T))
     (old new : WorkerState L T P) (server : ℕ) (late : Bool) → OnFalse late (new ≡ old)

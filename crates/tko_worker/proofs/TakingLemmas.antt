@@ -7,7 +7,7 @@ use Rattle.tko_mux.specs.Muxes.{WaitsFor}
 use Rattle.tko_port.specs.declared.guest.Guest.{Guest}
 use Rattle.tko_worker.specs.Acts.{HasActed}
 use Rattle.tko_worker.specs.Servers.{HasNoResponse}
-use Rattle.tko_worker.specs.Taking.{AreTaken, IsTaken, is_set}
+use Rattle.tko_worker.specs.Taking.{AreResponsesTaken, AreTaken, is_flag_set}
 use Rattle.tko_worker.specs.Workers.{Sight, WorkerState}
 use Rattle.tko_worker.proofs.ActedLemmas.{acted_none, worker_acted_on}
 
@@ -18,7 +18,7 @@ module _ {L T P : Type 0} (sight : Sight L T) (waits_for : WaitsFor (Guest L T))
       → AreTaken sight waits_for flags count one two → HasActed sight two three
       → AreTaken sight waits_for flags count one three
   taken_on count one two three taken more server below set =
-      let it : IsTaken sight waits_for one server two = taken server below set in
+      let it : AreResponsesTaken sight waits_for one server two = taken server below set in
       record {
         mid = it.mid;
         before = it.before;
@@ -28,7 +28,7 @@ module _ {L T P : Type 0} (sight : Sight L T) (waits_for : WaitsFor (Guest L T))
 
   -- nothing is left of the next server
   pub none_left : (count : ℕ) (one two : WorkerState L T P) → HasActed sight one two
-      → HasNoResponse waits_for two.mux count → IsTaken sight waits_for one count two
+      → HasNoResponse waits_for two.mux count → AreResponsesTaken sight waits_for one count two
   none_left count one two done none = record {
     mid = two;
     before = done;
@@ -38,14 +38,14 @@ module _ {L T P : Type 0} (sight : Sight L T) (waits_for : WaitsFor (Guest L T))
 
   one_more : (count : ℕ) (one two : WorkerState L T P)
       → AreTaken sight waits_for flags count one two
-      → (is_set flags count ≡ true → IsTaken sight waits_for one count two)
+      → (is_flag_set flags count ≡ true → AreResponsesTaken sight waits_for one count two)
       → AreTaken sight waits_for flags (count + 1) one two
   one_more count one two before its server below set = elim (cases_lt server count) [
     | inl less ↦ before server less set
     | inr most ↦ (
         let same : count ≡ server = omega arith in
-        subst (λ n. IsTaken sight waits_for one n two) same
-        (its (subst (λ n. is_set flags n ≡ true) (sym same) set)))
+        subst (λ n. AreResponsesTaken sight waits_for one n two) same
+        (its (subst (λ n. is_flag_set flags n ≡ true) (sym same) set)))
   ]
 
   -- what came from the next server was taken, or some of it is left

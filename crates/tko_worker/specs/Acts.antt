@@ -4,30 +4,30 @@ use Rattle.tko_model.specs.Records.{Gains}
 use Rattle.tko_roster.specs.Rosters.{Acted, Admitted, IsRosterStep, IsServed, Released, RosterAct, RosterState}
 use Rattle.tko_roster.specs.Tagged.{Tagged}
 use Rattle.tko_mux.specs.declared.client.Client.{Client}
-use Rattle.tko_mux.specs.Asks.{Asked, IsCall}
-use Rattle.tko_port.specs.declared.guest.Event.{Event}
+use Rattle.tko_mux.specs.Asks.{AskedCall, IsCall}
+use Rattle.tko_port.specs.declared.guest.ClientEvent.{ClientEvent}
 use Rattle.tko_port.specs.declared.guest.Guest.{Guest}
-use Rattle.tko_port.specs.declared.guest.Shared.{Shared}
+use Rattle.tko_port.specs.declared.guest.SharedParts.{SharedParts}
 use Rattle.tko_port.specs.declared.guest.Turned.{Turned}
 use Rattle.tko_port.specs.declared.settling.End.{End}
 use Rattle.tko_port.specs.Guests.{IsGuestCall}
 use Rattle.tko_worker.specs.declared.ends.EndCounts.{EndCounts}
-use Rattle.tko_worker.specs.Counts.{counted}
+use Rattle.tko_worker.specs.Counts.{counted_end}
 use Rattle.tko_worker.specs.Workers.{Sight, WorkerState}
 
 -- what a client does: it comes, is called, or leaves
 abbrev pub ClientAct : Type 0 → Type 0 → Type 0
-ClientAct L T = RosterAct (Client (Guest L T)) (Asked Event Turned)
+ClientAct L T = RosterAct (Client (Guest L T)) (AskedCall ClientEvent Turned)
 
 -- the clients, and how many ended
 abbrev pub RosterAndEnds : Type 0 → Type 0 → Type 0 → Type 0
-RosterAndEnds L T P = RosterState (Client (Guest L T)) (Shared P) × EndCounts
+RosterAndEnds L T P = RosterState (Client (Guest L T)) (SharedParts P) × EndCounts
 
 -- a client that leaves is counted as one end, and nothing else is counted
 abbrev pub CountsAct : {L T : Type 0} → ClientAct L T → EndCounts → EndCounts → Type 0
 CountsAct (Admitted client) old new = new ≡ old
 CountsAct (Acted call) old new = new ≡ old
-CountsAct (Released client) old new = (why : End) × (new ≡ counted why old)
+CountsAct (Released client) old new = (why : End) × (new ≡ counted_end why old)
 
 -- one act
 abbrev pub IsClientStep : {L T P : Type 0} → Sight L T → RosterAndEnds L T P
@@ -53,14 +53,14 @@ one_left (Admitted client) = 0
 one_left (Acted call) = 0
 one_left (Released client) = 1
 
-abbrev pub left_in : {L T : Type 0} → List (Tagged (ClientAct L T)) → ℕ
-left_in [] = 0
-left_in (it ∷ acts) = one_left it.item + left_in acts
+abbrev pub clients_left_in : {L T : Type 0} → List (Tagged (ClientAct L T)) → ℕ
+clients_left_in [] = 0
+clients_left_in (it ∷ acts) = one_left it.item + clients_left_in acts
 
 -- these ends were counted, one after another
 abbrev pub all_counted : List End → EndCounts → EndCounts
 all_counted [] ends = ends
-all_counted (why ∷ whys) ends = all_counted whys (counted why ends)
+all_counted (why ∷ whys) ends = all_counted whys (counted_end why ends)
 
 -- the clients of a worker were served: each number by its own acts, over the parts as they were
 -- then; and there were as many ends as clients that left
@@ -71,5 +71,5 @@ pub record HasServed {L T P : Type 0} (sight : Sight L T) (old new : WorkerState
         (IsCall (IsGuestCall sight.0 sight.1 sight.2) (λ guest. sight.0 guest.talk))
         (λ client. sight.0 client.session.talk) old.mux.roster acts new.mux.roster
     pub whys : List End
-    pub each : length whys ≡ left_in acts
+    pub each : length whys ≡ clients_left_in acts
     pub ends : new.ends ≡ all_counted whys old.ends

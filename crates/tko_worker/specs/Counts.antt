@@ -2,7 +2,7 @@
 use Rattle.std.specs.Prelude.{ℕ, ◌+◌, ◌-◌, ◌^◌, min}
 use Rattle.tko_mux.specs.Muxes.{MuxState}
 use Rattle.tko_port.specs.declared.guest.Guest.{Guest}
-use Rattle.tko_port.specs.declared.guest.Shared.{Shared}
+use Rattle.tko_port.specs.declared.guest.SharedParts.{SharedParts}
 use Rattle.tko_port.specs.declared.settling.End.{End}
 use Rattle.tko_port.specs.declared.settling.End.TheVariants.{Finished, LineTooLong, Memory, ReadFailed, WriteFailed}
 use Rattle.tko_worker.specs.declared.ends.EndCounts.{EndCounts}
@@ -15,13 +15,13 @@ abbrev pub one_more : ℕ → ℕ
 one_more count = min (count + 1) (2 ^ 64 - 1)
 
 -- an end was counted
-abbrev pub counted : End → EndCounts → EndCounts
-counted Finished ends = record ends { finished = one_more ends.finished }
-counted LineTooLong ends = record ends { line_too_long = one_more ends.line_too_long }
-counted Memory ends = record ends { memory = one_more ends.memory }
-counted ReadFailed ends = record ends { read = one_more ends.read }
-counted WriteFailed ends = record ends { write = one_more ends.write }
+abbrev pub counted_end : End → EndCounts → EndCounts
+counted_end Finished ends = record ends { finished = one_more ends.finished }
+counted_end LineTooLong ends = record ends { line_too_long = one_more ends.line_too_long }
+counted_end Memory ends = record ends { memory = one_more ends.memory }
+counted_end ReadFailed ends = record ends { read = one_more ends.read }
+counted_end WriteFailed ends = record ends { write = one_more ends.write }
 
 -- clients and their servers, and how many clients ended
 abbrev pub MuxAndEnds : Type 0 → Type 0 → Type 0 → Type 0
-MuxAndEnds L T P = MuxState (Guest L T) (Shared P) × EndCounts
+MuxAndEnds L T P = MuxState (Guest L T) (SharedParts P) × EndCounts

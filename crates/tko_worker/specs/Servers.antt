@@ -13,10 +13,10 @@ use Rattle.tko_mux.specs.declared.client.Client.{Client}
 use Rattle.tko_mux.specs.declared.mux.delivery.Delivery.{Delivery}
 use Rattle.tko_mux.specs.declared.mux.delivery.Delivery.TheVariants.{Probed, Reached}
 use Rattle.tko_mux.specs.Lines.{LineState}
-use Rattle.tko_mux.specs.Muxes.{IsLent, IsRead, LeaveEnds, MuxState, WaitsFor}
+use Rattle.tko_mux.specs.Muxes.{IsLent, IsResponseRead, MuxState, TellEnds, WaitsFor}
 use Rattle.tko_port.specs.Peers.{delivery_in}
 use Rattle.tko_port.specs.declared.guest.Guest.{Guest}
-use Rattle.tko_port.specs.declared.guest.Shared.{Shared}
+use Rattle.tko_port.specs.declared.guest.SharedParts.{SharedParts}
 use Rattle.tko_port.specs.declared.guest.Turned.{Turned}
 use Rattle.tko_port.specs.Guests.{IsGuestCall}
 use Rattle.tko_worker.specs.Counts.{MuxAndEnds}
@@ -55,12 +55,13 @@ ListsReached sight old (Some (Reached number done)) numbers new now =
 ListsReached sight old (Some (Probed it)) numbers new now = (new ≡ old) × (now ≡ numbers)
 
 -- a response of a server was looked for; the client that it reached is to be served in this turn
-pub record HasTaken {L T P : Type 0} (sight : Sight L T) (asks_for : Guest L T → Option Request)
-    (waits_for : WaitsFor (Guest L T)) (old : WorkerState L T P) (server due : ℕ)
+pub record HasResponseTaken {L T P : Type 0} (sight : Sight L T)
+    (asks_for : Guest L T → Option Request) (waits_for : WaitsFor (Guest L T))
+    (old : WorkerState L T P) (server due : ℕ)
     (result : Result (Option (Delivery Turned)) ShutCause) (new : WorkerState L T P) : Type 0 where
-  pub mid : MuxState (Guest L T) (Shared P)
-  pub read : IsRead (IsGuestCall sight.0 sight.1 sight.2) (λ guest. sight.0 guest.talk) asks_for
-      waits_for old.mux server due result mid
+  pub mid : MuxState (Guest L T) (SharedParts P)
+  pub read : IsResponseRead (IsGuestCall sight.0 sight.1 sight.2)
+      (λ guest. sight.0 guest.talk) asks_for waits_for old.mux server due result mid
   pub listed : ListsReached sight (mid, old.ends) (delivery_in result) old.touched
       (new.mux, new.ends) new.touched
   pub spent : new.spent ≡ old.spent
@@ -70,8 +71,8 @@ pub record HasTaken {L T P : Type 0} (sight : Sight L T) (asks_for : Guest L T �
 pub record HasLeftNext {L T P : Type 0} (sight : Sight L T) (asks_for : Guest L T → Option Request)
     (old : WorkerState L T P) (server due : ℕ) (result : Option (Delivery Turned))
     (new : WorkerState L T P) : Type 0 where
-  pub mid : MuxState (Guest L T) (Shared P)
-  pub left : LeaveEnds (IsGuestCall sight.0 sight.1 sight.2) (λ guest. sight.0 guest.talk) asks_for
+  pub mid : MuxState (Guest L T) (SharedParts P)
+  pub left : TellEnds (IsGuestCall sight.0 sight.1 sight.2) (λ guest. sight.0 guest.talk) asks_for
       old.mux server due result mid
   pub listed : ListsReached sight (mid, old.ends) result old.touched (new.mux, new.ends)
       new.touched

@@ -5,30 +5,30 @@ use Rattle.tko_roster.specs.Rosters.{session_at}
 use Rattle.tko_mux.specs.declared.mux.delivery.Done.{Done}
 use Rattle.tko_mux.specs.Muxes.{MuxState}
 use Rattle.tko_port.specs.declared.guest.Guest.{Guest}
-use Rattle.tko_port.specs.declared.guest.Shared.{Shared}
+use Rattle.tko_port.specs.declared.guest.SharedParts.{SharedParts}
 use Rattle.tko_port.specs.declared.guest.Turned.{Turned}
 use Rattle.tko_port.specs.declared.guest.Turned.TheVariants.{Ends}
 use Rattle.tko_port.specs.declared.settling.End.{End}
 use Rattle.tko_port.specs.declared.settling.End.TheVariants.{Memory}
-use Rattle.tko_worker.specs.Counts.{MuxAndEnds, counted}
-use Rattle.tko_worker.specs.declared.serving.Next.{Next}
-use Rattle.tko_worker.specs.declared.serving.Next.TheVariants.{AsksMore, Later, Rests}
+use Rattle.tko_worker.specs.Counts.{MuxAndEnds, counted_end}
+use Rattle.tko_worker.specs.declared.serving.AfterServing.{AfterServing}
+use Rattle.tko_worker.specs.declared.serving.AfterServing.TheVariants.{AsksMore, Later, Rests}
 use Rattle.tko_worker.specs.Workers.{AsksOn, HasLeft, RestAt, Sight, WasServed}
 
 -- a client was served, which ended so at last; it left
 pub record HasEnded {L T P : Type 0} (sight : Sight L T) (asks_for : Guest L T → Option Request)
-    (old : MuxState (Guest L T) (Shared P)) (number due : ℕ) (why : End)
-    (new : MuxState (Guest L T) (Shared P)) : Type 0 where
-  pub mid : MuxState (Guest L T) (Shared P)
+    (old : MuxState (Guest L T) (SharedParts P)) (number due : ℕ) (why : End)
+    (new : MuxState (Guest L T) (SharedParts P)) : Type 0 where
+  pub mid : MuxState (Guest L T) (SharedParts P)
   pub served : WasServed sight asks_for old number due mid
   pub ends : served.done.did ≡ Ends why
   pub left : HasLeft sight.0 mid number new
 
 -- a client was served, which was to be served again; it left, since there was no memory to note it
 pub record HasLost {L T P : Type 0} (sight : Sight L T) (asks_for : Guest L T → Option Request)
-    (old : MuxState (Guest L T) (Shared P)) (number due : ℕ)
-    (new : MuxState (Guest L T) (Shared P)) : Type 0 where
-  pub mid : MuxState (Guest L T) (Shared P)
+    (old : MuxState (Guest L T) (SharedParts P)) (number due : ℕ)
+    (new : MuxState (Guest L T) (SharedParts P)) : Type 0 where
+  pub mid : MuxState (Guest L T) (SharedParts P)
   pub served : WasServed sight asks_for old number due mid
   pub left : HasLeft sight.0 mid number new
 
@@ -40,14 +40,14 @@ pub data ServeCounts {L T P : Type 0} (sight : Sight L T) (asks_for : Guest L T 
       ≡ is_some (session_at old.0.roster.slots number) → new.1 ≡ old.1
       → ServeCounts sight asks_for old number due new
   ended : (why : End) → HasEnded sight asks_for old.0 number due why new.0
-      → new.1 ≡ counted why old.1 → ServeCounts sight asks_for old number due new
-  lost : HasLost sight asks_for old.0 number due new.0 → new.1 ≡ counted Memory old.1
+      → new.1 ≡ counted_end why old.1 → ServeCounts sight asks_for old number due new
+  lost : HasLost sight asks_for old.0 number due new.0 → new.1 ≡ counted_end Memory old.1
       → ServeCounts sight asks_for old number due new
 
 -- what serving a client once came to: it rests, or left; it asked a server, and can go on; or it is
 -- to be served again later
 abbrev pub OnceEnds : {L T P : Type 0} → Sight L T → (Guest L T → Option Request)
-    → MuxAndEnds L T P → ℕ → ℕ → Next → MuxAndEnds L T P → Type 0
+    → MuxAndEnds L T P → ℕ → ℕ → AfterServing → MuxAndEnds L T P → Type 0
 OnceEnds sight asks_for old number due Rests new =
     RestAt sight new.0.roster.slots number × ServeCounts sight asks_for old number due new
 OnceEnds sight asks_for old number due AsksMore new =

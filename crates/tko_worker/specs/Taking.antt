@@ -7,11 +7,11 @@ use Rattle.tko_worker.specs.Servers.{HasNoResponse}
 use Rattle.tko_worker.specs.Workers.{Sight, WorkerState}
 
 -- whether the flag of a server is set; one that has none counts as set
-abbrev pub is_set : List Bool → ℕ → Bool
-is_set flags server = unwrap_or (slice_get flags server) true
+abbrev pub is_flag_set : List Bool → ℕ → Bool
+is_flag_set flags server = unwrap_or (slice_get flags server) true
 
 -- at some moment between these two no whole response of a server was unread
-pub record IsTaken {L T P : Type 0} (sight : Sight L T) (waits_for : WaitsFor (Guest L T))
+pub record AreResponsesTaken {L T P : Type 0} (sight : Sight L T) (waits_for : WaitsFor (Guest L T))
     (old : WorkerState L T P) (server : ℕ) (new : WorkerState L T P) : Type 0 where
   pub mid : WorkerState L T P
   pub before : HasActed sight old mid
@@ -22,4 +22,4 @@ pub record IsTaken {L T P : Type 0} (sight : Sight L T) (waits_for : WaitsFor (G
 abbrev pub AreTaken : {L T P : Type 0} → Sight L T → WaitsFor (Guest L T) → List Bool → ℕ
     → WorkerState L T P → WorkerState L T P → Type 0
 AreTaken sight waits_for flags count old new = (server : ℕ) → server < count
-    → is_set flags server ≡ true → IsTaken sight waits_for old server new
+    → is_flag_set flags server ≡ true → AreResponsesTaken sight waits_for old server new

@@ -71,7 +71,7 @@ NoneWanted port lines peers count = (server : ℕ) → server < count
 
 -- the connection to a server was made, nobody waits on it, and nothing can be read or is to be
 -- written
-pub record IsQuiet (line : Option LineState) (port : Option PortState) : Type 0 where
+pub record IsLineIdle (line : Option LineState) (port : Option PortState) : Type 0 where
   pub is_open : IsOpen line
   pub link : link_at line ≡ Some Connected
   pub read : IsNotReadable port

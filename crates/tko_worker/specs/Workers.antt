@@ -8,18 +8,18 @@ use Rattle.tko_mux.specs.declared.asking.Given.TheVariants.{Input}
 use Rattle.tko_mux.specs.declared.mux.delivery.Delivery.{Delivery}
 use Rattle.tko_mux.specs.declared.mux.delivery.Delivery.TheVariants.{Probed, Reached}
 use Rattle.tko_mux.specs.declared.mux.delivery.Done.{Done}
-use Rattle.tko_mux.specs.Linking.{AreLinked, IsKept}
+use Rattle.tko_mux.specs.Linking.{AreLinked, IsNotForgotten}
 use Rattle.tko_mux.specs.Muxes.{IsMade, MuxState}
 use Rattle.tko_text.specs.declared.request.Request.{Request}
-use Rattle.tko_port.specs.declared.guest.Event.{Event}
-use Rattle.tko_port.specs.declared.guest.Event.TheVariants.{Leave, Serve}
+use Rattle.tko_port.specs.declared.guest.ClientEvent.{ClientEvent}
+use Rattle.tko_port.specs.declared.guest.ClientEvent.TheVariants.{Leave, Serve}
 use Rattle.tko_port.specs.declared.guest.Presence.{Presence}
 use Rattle.tko_port.specs.declared.guest.Presence.TheVariants.{Here, Leaving}
 use Rattle.tko_port.specs.declared.guest.Guest.{Guest}
 use Rattle.tko_port.specs.declared.guest.Turned.{Turned}
 use Rattle.tko_port.specs.declared.guest.Turned.TheVariants.{AsksMore}
-use Rattle.tko_port.specs.declared.guest.Shared.{Shared}
-use Rattle.tko_port.specs.Guests.{IsGuestCall, IsResting, noting, presence_after, seen}
+use Rattle.tko_port.specs.declared.guest.SharedParts.{SharedParts}
+use Rattle.tko_port.specs.Guests.{IsGuestCall, IsResting, guest_seen, noting, presence_after}
 use Rattle.tko_port.specs.Lives.{IsGuestReady}
 use Rattle.tko_port.specs.Ports.{PortState}
 use Rattle.tko_worker.specs.declared.ends.EndCounts.{EndCounts}
@@ -27,12 +27,12 @@ use Rattle.tko_port.specs.declared.settling.End.{End}
 use Rattle.tko_port.specs.declared.settling.End.TheVariants.{Memory}
 use Rattle.tko_port.specs.declared.talking.Tally.{Tally}
 use Rattle.tko_port.specs.Talks.{Readiness, Talk, tally_of}
-use Rattle.tko_worker.specs.Counts.{MuxAndEnds, counted}
+use Rattle.tko_worker.specs.Counts.{MuxAndEnds, counted_end}
 
 -- the clients and their servers; the numbers of clients that are to be served in this turn; those
 -- that are served again in the next; and how many ended since their ends were taken
 pub record WorkerState (L T P : Type 0) : Type 0 where
-  pub mux : MuxState (Guest L T) (Shared P)
+  pub mux : MuxState (Guest L T) (SharedParts P)
   pub touched : List ℕ
   pub spent : List ℕ
   pub ends : EndCounts
@@ -60,7 +60,7 @@ Sight L T = (T → List ℕ) × (T → Talk) × (L → PortState)
 -- nothing can be done for a number before its next event: it has no client, or that rests
 abbrev pub Rests : {L T : Type 0} → Sight L T → Option (Client (Guest L T)) → Type 0
 Rests sight None = Unit {0}
-Rests sight (Some client) = IsResting (seen sight.0 sight.1 sight.2 client.session)
+Rests sight (Some client) = IsResting (guest_seen sight.0 sight.1 sight.2 client.session)
 
 abbrev pub RestAt : {L T : Type 0} → Sight L T → List (Option (Client (Guest L T))) → ℕ → Type 0
 RestAt sight slots number = Rests sight (session_at slots number)
@@ -88,15 +88,15 @@ pub record IsInOrder {L T P : Type 0} (sight : Sight L T) (is_ready : Readiness 
   pub nobody : NobodyForgotten sight worker.mux.roster.slots worker.touched worker.spent
 
 -- a number was noted as one that is to be served, or it rests
-abbrev pub IsListed : {L T : Type 0} → Sight L T → List (Option (Client (Guest L T))) → ℕ
+abbrev pub IsNotedToServe : {L T : Type 0} → Sight L T → List (Option (Client (Guest L T))) → ℕ
     → List ℕ → List ℕ → Type 0
-IsListed sight slots number old new =
+IsNotedToServe sight slots number old new =
     (RestAt sight slots number × (new ≡ old)) ⊎ (new ≡ old ++ number ∷ [])
 
 -- an event was noted at a number's client. Its session, all others and all else stay
-pub record IsNotedAt {L T P : Type 0} (port : L → PortState) (event : Event)
-    (old : MuxState (Guest L T) (Shared P)) (number : ℕ) (new : MuxState (Guest L T) (Shared P))
-    : Type 0 where
+pub record IsNotedAt {L T P : Type 0} (port : L → PortState) (event : ClientEvent)
+    (old : MuxState (Guest L T) (SharedParts P)) (number : ℕ)
+    (new : MuxState (Guest L T) (SharedParts P)) : Type 0 where
   pub was : Client (Guest L T)
   pub now : Client (Guest L T)
   pub moved : IsMoved old.roster.slots number (Some was) (Some now) new.roster.slots
@@ -108,16 +108,17 @@ pub record IsNotedAt {L T P : Type 0} (port : L → PortState) (event : Event)
   pub limit : new.limit ≡ old.limit
 
 -- an event came for a number: it has no client, and nothing changes; or it was noted at its port
-pub data HasReached {L T P : Type 0} (port : L → PortState) (event : Event)
-    (old : MuxState (Guest L T) (Shared P)) (number : ℕ) (new : MuxState (Guest L T) (Shared P))
-    : Type 0 where
+pub data HasReached {L T P : Type 0} (port : L → PortState) (event : ClientEvent)
+    (old : MuxState (Guest L T) (SharedParts P)) (number : ℕ)
+    (new : MuxState (Guest L T) (SharedParts P)) : Type 0 where
   nobody : session_at old.roster.slots number ≡ None → new ≡ old
       → HasReached port event old number new
   noted : IsNotedAt port event old number new → HasReached port event old number new
 
 -- the client of a number left, which has no request under way
-pub record HasLeft {L T P : Type 0} (awaited : T → List ℕ) (old : MuxState (Guest L T) (Shared P))
-    (number : ℕ) (new : MuxState (Guest L T) (Shared P)) : Type 0 where
+pub record HasLeft {L T P : Type 0} (awaited : T → List ℕ)
+    (old : MuxState (Guest L T) (SharedParts P)) (number : ℕ)
+    (new : MuxState (Guest L T) (SharedParts P)) : Type 0 where
   pub client : Client (Guest L T)
   pub released : IsReleased (λ it. awaited it.session.talk) old.roster number client new.roster
   pub lines : new.lines ≡ old.lines
@@ -132,13 +133,13 @@ IsHere {L} {T} slots number = (client : Client (Guest L T))
 -- way, or there is none: then it stays, if it rests, and else it is to leave so as soon as it can
 pub data DropEnds {L T P : Type 0} (sight : Sight L T) (why : End) (old : MuxAndEnds L T P)
     (number : ℕ) (new : MuxAndEnds L T P) : Type 0 where
-  kept : IsKept (λ guest. sight.0 guest.talk) old.0.roster.slots number
+  kept : IsNotForgotten (λ guest. sight.0 guest.talk) old.0.roster.slots number
       → RestAt sight old.0.roster.slots number → new ≡ old → DropEnds sight why old number new
-  leaving : IsKept (λ guest. sight.0 guest.talk) old.0.roster.slots number
+  leaving : IsNotForgotten (λ guest. sight.0 guest.talk) old.0.roster.slots number
       → IsHere old.0.roster.slots number
       → HasReached sight.2 (Leave why) old.0 number new.0 → new.1 ≡ old.1
       → DropEnds sight why old number new
-  left : HasLeft sight.0 old.0 number new.0 → new.1 ≡ counted why old.1
+  left : HasLeft sight.0 old.0 number new.0 → new.1 ≡ counted_end why old.1
       → DropEnds sight why old number new
 
 -- a number was noted as one that is to be served; or memory ran out for that, and its client was to
@@ -150,18 +151,18 @@ pub data ListEnds {L T P : Type 0} (sight : Sight L T) (old : MuxAndEnds L T P) 
       → ListEnds sight old number numbers new now
 
 -- an event came for a number, and its client is to be served in this turn
-pub record IsNoted {L T P : Type 0} (sight : Sight L T) (event : Event)
+pub record IsNoted {L T P : Type 0} (sight : Sight L T) (event : ClientEvent)
     (old : WorkerState L T P) (number : ℕ) (new : WorkerState L T P) : Type 0 where
-  pub reached : MuxState (Guest L T) (Shared P)
+  pub reached : MuxState (Guest L T) (SharedParts P)
   pub has_reached : HasReached sight.2 event old.mux number reached
   pub listed : ListEnds sight (reached, old.ends) number old.touched (new.mux, new.ends)
       new.touched
   pub spent : new.spent ≡ old.spent
 
 -- a client has the number, with this port and this session, and is to be served in this turn
-pub record IsOpened {L T P : Type 0} (sight : Sight L T) (old : WorkerState L T P) (port : L)
+pub record IsClientOpened {L T P : Type 0} (sight : Sight L T) (old : WorkerState L T P) (port : L)
     (talk : T) (number : ℕ) (new : WorkerState L T P) : Type 0 where
-  pub mid : MuxState (Guest L T) (Shared P)
+  pub mid : MuxState (Guest L T) (SharedParts P)
   pub admitted : IsAdmitted old.mux.roster number
       (record { session = record { port = port; talk = talk; presence = Here } }) mid.roster
   pub lines : mid.lines ≡ old.mux.lines
@@ -171,8 +172,8 @@ pub record IsOpened {L T P : Type 0} (sight : Sight L T) (old : WorkerState L T 
 
 -- the client of a number was served, asked a server, and can go on
 pub record AsksOn {L T P : Type 0} (sight : Sight L T) (asks_for : Guest L T → Option Request)
-    (number due : ℕ) (old : MuxState (Guest L T) (Shared P)) (done : Done Turned)
-    (new : MuxState (Guest L T) (Shared P)) : Type 0 where
+    (number due : ℕ) (old : MuxState (Guest L T) (SharedParts P)) (done : Done Turned)
+    (new : MuxState (Guest L T) (SharedParts P)) : Type 0 where
   pub made : IsMade (IsGuestCall sight.0 sight.1 sight.2) (λ guest. sight.0 guest.talk) asks_for old
       number (Input Serve) due done new
   pub more : done.did ≡ AsksMore
@@ -180,10 +181,10 @@ pub record AsksOn {L T P : Type 0} (sight : Sight L T) (asks_for : Guest L T →
 -- the client of a number was served, once or more often: each time but the last it asked a server,
 -- and could go on
 pub record WasServed {L T P : Type 0} (sight : Sight L T) (asks_for : Guest L T → Option Request)
-    (old : MuxState (Guest L T) (Shared P)) (number due : ℕ) (new : MuxState (Guest L T) (Shared P))
-    : Type 0 where
+    (old : MuxState (Guest L T) (SharedParts P)) (number due : ℕ)
+    (new : MuxState (Guest L T) (SharedParts P)) : Type 0 where
   pub asks : List (Done Turned)
-  pub before : MuxState (Guest L T) (Shared P)
+  pub before : MuxState (Guest L T) (SharedParts P)
   pub asked : Gains (AsksOn sight asks_for number due) old asks before
   pub done : Done Turned
   pub made : IsMade (IsGuestCall sight.0 sight.1 sight.2) (λ guest. sight.0 guest.talk) asks_for
@@ -191,16 +192,16 @@ pub record WasServed {L T P : Type 0} (sight : Sight L T) (asks_for : Guest L T 
 
 -- the client of a number was served, whatever it came to
 abbrev pub IsSpentAfter : {L T P : Type 0} → Sight L T → (Guest L T → Option Request)
-    → MuxState (Guest L T) (Shared P) → ℕ → ℕ → Type 0
+    → MuxState (Guest L T) (SharedParts P) → ℕ → ℕ → Type 0
 IsSpentAfter {L} {T} {P} sight asks_for old number due =
-    (mid : MuxState (Guest L T) (Shared P)) × WasServed sight asks_for old number due mid
+    (mid : MuxState (Guest L T) (SharedParts P)) × WasServed sight asks_for old number due mid
 
 -- what serving a number comes to: it rests; or it was served, and is noted as one that is served
 -- again
-abbrev pub IsServed : {L T P : Type 0} → Sight L T → (Guest L T → Option Request)
-    → MuxState (Guest L T) (Shared P) → ℕ → ℕ → MuxState (Guest L T) (Shared P) → List ℕ → List ℕ
-    → Type 0
-IsServed sight asks_for old number due new spent now_spent =
+abbrev pub IsNumberServed : {L T P : Type 0} → Sight L T → (Guest L T → Option Request)
+    → MuxState (Guest L T) (SharedParts P) → ℕ → ℕ → MuxState (Guest L T) (SharedParts P)
+    → List ℕ → List ℕ → Type 0
+IsNumberServed sight asks_for old number due new spent now_spent =
     (RestAt sight new.roster.slots number × (now_spent ≡ spent))
     ⊎ (IsSpentAfter sight asks_for old number due × (now_spent ≡ spent ++ number ∷ []))
 
@@ -213,5 +214,5 @@ OthersStayFor (Probed it) old new = (other : ℕ) → session_at new other ≡ s
 -- the client that something reached, if it reached one, was noted as one that is to be served
 abbrev pub IsListedFor : {L T : Type 0} → Sight L T → List (Option (Client (Guest L T)))
     → Delivery Turned → List ℕ → List ℕ → Type 0
-IsListedFor sight slots (Reached number done) old new = IsListed sight slots number old new
+IsListedFor sight slots (Reached number done) old new = IsNotedToServe sight slots number old new
 IsListedFor sight slots (Probed it) old new = new ≡ old

@@ -1,6 +1,6 @@
 //! How many clients ended, by how they did.
 ghost use Rattle.std.specs.Prelude.{◌≡◌};
-ghost use Rattle.tko_worker.specs.Counts.{counted, no_ends, one_more};
+ghost use Rattle.tko_worker.specs.Counts.{counted_end, no_ends, one_more};
 
 use tko_port::End;
 
@@ -34,7 +34,7 @@ impl EndCounts {
 
     /// Counts an end.
     pub(crate) fn count(&mut self, end: End)
-        ensures { self.new ≡ counted end self.old }
+        ensures { self.new ≡ counted_end end self.old }
     {
         match end {
             End::Finished => self.finished = one_more(self.finished),

@@ -6,7 +6,7 @@ ghost use Rattle.tko_mux.specs.Muxes.{line_at};
 ghost use Rattle.tko_port.specs.Guests.{noting};
 ghost use Rattle.tko_worker.specs.Acts.{HasActed};
 ghost use Rattle.tko_worker.specs.Connections.{has_socket};
-ghost use Rattle.tko_worker.specs.Taking.{AreTaken, is_set};
+ghost use Rattle.tko_worker.specs.Taking.{AreTaken, is_flag_set};
 ghost use Rattle.tko_worker.specs.Turns.{AreAhead, AreWritten, IsAhead, IsNextDue, IsWanted, NoneWanted, OtherPeers, ServersRest, probed_at, socket_at};
 ghost use Rattle.tko_port.specs.Wires.{CannotWriteTo, HasConnected, HasFailed, IsOpen, OtherLines, link_at};
 ghost use Rattle.tko_worker.specs.Workers.{IsInOrder};
@@ -17,7 +17,7 @@ use std::alloc::Global;
 use tko_bytes::NoMemory;
 use tko_mux::{Asking, Came};
 use tko_pipe::Link;
-use tko_port::{Event, Guest, Peer, Port, Shared, Talking, is_connecting};
+use tko_port::{ClientEvent, Guest, Peer, Port, SharedParts, Talking, is_connecting};
 
 /// The clients of a worker, and the sockets to its servers. A turn of events begins by
 /// `begin_turn`; then what came is noted, `serve` does what can be done for the clients, and
@@ -38,10 +38,10 @@ impl<P: Drop, L: Port + Drop, T: Talking<P> + Drop> EventWorker<L, T, P> {
     /// response. If memory runs out, what is shared comes back.
     pub fn new(
         alloc: Global,
-        shared: Shared<P>,
+        shared: SharedParts<P>,
         servers: usize,
         limit: u64,
-    ) -> Result<EventWorker<L, T, P>, Shared<P>>
+    ) -> Result<EventWorker<L, T, P>, SharedParts<P>>
         ensures order { IfOk result (λ it.
             IsInOrder (T.awaited, T.talk, L.port) T.ready it.clients) }
         ensures peers { IfOk result (λ it. length it.peers.items ≡ servers) }
@@ -184,7 +184,7 @@ impl<P, L: Port + Drop, T: Talking<P> + Drop> EventWorker<L, T, P> {
     }
 
     /// An event came for the socket to a server.
-    pub fn note_server(&mut self, server: usize, event: Event)
+    pub fn note_server(&mut self, server: usize, event: ClientEvent)
         ensures noted { socket_at L.port self.new.peers.items server
             ≡ option_map (noting event) (socket_at L.port self.old.peers.items server) }
         ensures clients { self.new.clients ≡ self.old.clients }
@@ -245,7 +245,7 @@ impl<P, L: Port + Drop, T: Talking<P> + Drop> EventWorker<L, T, P> {
         requires order { IsInOrder (T.awaited, T.talk, L.port) T.ready self.old.clients }
         ensures served { self.new.clients.touched ≡ [] }
         ensures taken { OnFalse self.new.is_behind (AreTaken (T.awaited, T.talk, L.port)
-            ⟦<Guest<L, T> as Asking<Shared<P>>>⟧.waits_for self.old.awake.items
+            ⟦<Guest<L, T> as Asking<SharedParts<P>>>⟧.waits_for self.old.awake.items
             (length self.old.peers.items) self.old.clients self.new.clients) }
         ensures count { length self.new.peers.items ≡ length self.old.peers.items }
         ensures room { length buffer.new ≡ length buffer.old }
@@ -298,8 +298,8 @@ impl<P, L: Port + Drop, T: Talking<P> + Drop> EventWorker<L, T, P> {
     }
 }
 
-/// Serves each server for which there may be something to do. Returns whether nothing that came from
-/// them is left.
+/// Serves each server for which there may be something to do. Returns whether nothing that came
+/// from them is left.
 fn serve_all<P, L: Port + Drop, T: Talking<P> + Drop>(
     clients: &mut Worker<L, T, P>,
     peers: &mut Vec<Peer<L>>,
@@ -312,7 +312,7 @@ fn serve_all<P, L: Port + Drop, T: Talking<P> + Drop>(
     requires room { 0 < length buffer.old }
     requires order { IsInOrder (T.awaited, T.talk, L.port) T.ready clients.old }
     ensures taken { OnTrue result (AreTaken (T.awaited, T.talk, L.port)
-        ⟦<Guest<L, T> as Asking<Shared<P>>>⟧.waits_for awake.now (length peers.old.items)
+        ⟦<Guest<L, T> as Asking<SharedParts<P>>>⟧.waits_for awake.now (length peers.old.items)
         clients.old clients.new) }
     ensures count { length peers.new.items ≡ length peers.old.items }
     ensures room { length buffer.new ≡ length buffer.old }
@@ -387,7 +387,7 @@ fn finish_one<P, L: Port + Drop, T: Talking<P> + Drop>(
 
 /// Whether the flag of a server is set. One that has none counts as set.
 fn is_set(flags: &[bool], server: usize) -> bool
-    ensures { result ≡ is_set flags.now server }
+    ensures { result ≡ is_flag_set flags.now server }
 {
     match flags.get(server) {
         Some(flag) => *flag,

@@ -2,7 +2,7 @@
 ghost use Rattle.std.specs.Prelude.{◌≡◌, ◌&&◌, ◌||◌, [], None, false, true, option_map};
 ghost use Rattle.std.specs.Bool.{OnFalse, OnTrue};
 ghost use Rattle.tko_mux.specs.Muxes.{line_at};
-ghost use Rattle.tko_worker.specs.Turns.{IsAhead, IsQuiet, IsWanted, ServerRests, earlier};
+ghost use Rattle.tko_worker.specs.Turns.{IsAhead, IsLineIdle, IsWanted, ServerRests, earlier};
 
 use crate::Worker;
 use tko_mux::{Asking, Mux};
@@ -117,7 +117,8 @@ pub(crate) fn is_quiet<P, S: Asking<P> + Drop, L: Port>(
     peer: &Peer<L>,
     server: usize,
 ) -> bool
-    ensures { OnTrue result (IsQuiet (line_at mux.now server) (option_map L.port peer.now.socket)) }
+    ensures { OnTrue result (IsLineIdle (line_at mux.now server)
+        (option_map L.port peer.now.socket)) }
 {
     if !is_connected(mux, server) {
         return false;

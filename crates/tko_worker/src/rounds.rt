@@ -10,8 +10,8 @@ use std::alloc::Global;
 use tko_bytes::NoMemory;
 use tko_model::Duty;
 use tko_pipe::Asker;
-use tko_port::{Port, Shared, Talking};
-use tko_roster::Visit;
+use tko_port::{Port, SharedParts, Talking};
+use tko_roster::PartsVisit;
 use tko_text::Request;
 
 /// Something that is done with the parts of the sessions, as the multiplexer has them.
@@ -19,7 +19,7 @@ struct OnShared<V> {
     visit: V,
 }
 
-impl<P, V: Visit<P>> Visit<Shared<P>> for OnShared<V> {
+impl<P, V: PartsVisit<P>> PartsVisit<SharedParts<P>> for OnShared<V> {
     ghost use Rattle.std.specs.Prelude.{◌≡◌};
 
     type Output = V::Output;
@@ -29,7 +29,7 @@ impl<P, V: Visit<P>> Visit<Shared<P>> for OnShared<V> {
 
     ghost stays = { λ old new. V.stays old.parts new.parts };
 
-    fn visit(self, shared: &mut Shared<P>) -> V::Output {
+    fn visit(self, shared: &mut SharedParts<P>) -> V::Output {
         let OnShared { visit } = self;
         visit.visit(&mut shared.parts)
     }
@@ -37,7 +37,7 @@ impl<P, V: Visit<P>> Visit<Shared<P>> for OnShared<V> {
 
 impl<P, L: Port + Drop, T: Talking<P> + Drop> Worker<L, T, P> {
     /// Does something with the parts that all sessions share, which leaves them ready.
-    pub fn visit<V: Visit<P>>(&mut self, visit: V) -> V::Output
+    pub fn visit<V: PartsVisit<P>>(&mut self, visit: V) -> V::Output
         requires stays { (old new : P) → V.stays old new → T.stays old new }
         requires order { IsInOrder (T.awaited, T.talk, L.port) T.ready self.old }
         ensures does { V.does visit self.old.mux.roster.parts.parts result

@@ -12,8 +12,8 @@ use std::alloc::Global;
 use tko_mux::Asking;
 use tko_pipe::ShutCause;
 use tko_port::{
-    Event, Guest, Peer, Port, Shared, Talking, has_unwritten, is_connecting, is_late, is_open,
-    read_wire, write_wire,
+    ClientEvent, Guest, Peer, Port, SharedParts, Talking, has_unwritten, is_connecting, is_late,
+    is_open, read_wire, write_wire,
 };
 
 /// How often a server is read from in one turn. What is left is read in the next turn.
@@ -42,7 +42,7 @@ impl<P, L: Port + Drop, T: Talking<P> + Drop> Worker<L, T, P> {
         if !is_connecting(&self.mux, server) {
             return;
         }
-        peer.note(Event::Writable);
+        peer.note(ClientEvent::Writable);
         self.mux.connected(server);
     }
 
@@ -84,7 +84,8 @@ impl<P, L: Port + Drop, T: Talking<P> + Drop> Worker<L, T, P> {
         ensures cannot { OnTrue result
             (CannotRead (line_at self.new.mux server) (option_map L.port peer.new.socket)) }
         ensures taken { OnTrue result
-            (HasNoResponse ⟦<Guest<L, T> as Asking<Shared<P>>>⟧.waits_for self.new.mux server) }
+            (HasNoResponse ⟦<Guest<L, T> as Asking<SharedParts<P>>>⟧.waits_for
+            self.new.mux server) }
         ensures time { OnTrue result
             (is_first_late (first_at (line_at self.new.mux server)) now ≡ false) }
         ensures open { OnTrue result (IsOpen (line_at self.new.mux server)) }
@@ -158,7 +159,8 @@ impl<P, L: Port + Drop, T: Talking<P> + Drop> Worker<L, T, P> {
         ensures cannot { OnTrue result
             (CannotRead (line_at self.new.mux server) (option_map L.port peer.new.socket)) }
         ensures taken { OnTrue result
-            (HasNoResponse ⟦<Guest<L, T> as Asking<Shared<P>>>⟧.waits_for self.new.mux server) }
+            (HasNoResponse ⟦<Guest<L, T> as Asking<SharedParts<P>>>⟧.waits_for
+            self.new.mux server) }
         ensures open { OnTrue result (IsOpen (line_at self.new.mux server)) }
         ensures held { IsHeld (option_map L.port peer.new.socket) (line_at self.new.mux server) }
         ensures room { length buffer.new ≡ length buffer.old }
@@ -181,7 +183,8 @@ impl<P, L: Port + Drop, T: Talking<P> + Drop> Worker<L, T, P> {
         requires held { IsHeld (option_map L.port peer.old.socket) (line_at self.old.mux server) }
         requires order { IsInOrder (T.awaited, T.talk, L.port) T.ready self.old }
         ensures taken { OnTrue result
-            (HasNoResponse ⟦<Guest<L, T> as Asking<Shared<P>>>⟧.waits_for self.new.mux server) }
+            (HasNoResponse ⟦<Guest<L, T> as Asking<SharedParts<P>>>⟧.waits_for
+            self.new.mux server) }
         ensures open { OnTrue result (IsOpen (line_at self.new.mux server)) }
         ensures held { IsHeld (option_map L.port peer.new.socket) (line_at self.new.mux server) }
         ensures acted { HasActed (T.awaited, T.talk, L.port) self.old self.new }
@@ -204,7 +207,8 @@ impl<P, L: Port + Drop, T: Talking<P> + Drop> Worker<L, T, P> {
         requires left { HasNoneLeaving (line_at self.old.mux server) }
         requires order { IsInOrder (T.awaited, T.talk, L.port) T.ready self.old }
         ensures taken { OnFalse result
-            (HasNoResponse ⟦<Guest<L, T> as Asking<Shared<P>>>⟧.waits_for self.new.mux server) }
+            (HasNoResponse ⟦<Guest<L, T> as Asking<SharedParts<P>>>⟧.waits_for
+            self.new.mux server) }
         ensures held { IsHeld (option_map L.port peer.new.socket) (line_at self.new.mux server) }
         ensures acted { HasActed (T.awaited, T.talk, L.port) self.old self.new }
         ensures order { IsInOrder (T.awaited, T.talk, L.port) T.ready self.new }

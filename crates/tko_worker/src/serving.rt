@@ -2,16 +2,18 @@
 ghost use Rattle.std.specs.Prelude.{◌≡◌, Some};
 ghost use Rattle.std.specs.Bool.{OnFalse, OnTrue};
 ghost use Rattle.tko_roster.specs.Rosters.{AreReady};
-ghost use Rattle.tko_mux.specs.Linking.{AreLinked, IsKept};
+ghost use Rattle.tko_mux.specs.Linking.{AreLinked, IsNotForgotten};
 ghost use Rattle.tko_worker.specs.Acts.{HaveActed};
 ghost use Rattle.tko_worker.specs.Servers.{ListsReached};
 ghost use Rattle.tko_worker.specs.Serving.{OnceEnds, ServeCounts};
-ghost use Rattle.tko_worker.specs.Workers.{DropEnds, IsHere, IsListed, IsListedFor, IsServed, ListEnds, OthersStay, OthersStayFor, RestAt, WasServed};
+ghost use Rattle.tko_worker.specs.Workers.{DropEnds, IsHere, IsListedFor, IsNotedToServe, IsNumberServed, ListEnds, OthersStay, OthersStayFor, RestAt, WasServed};
 
 use crate::EndCounts;
 use std::alloc::Global;
 use tko_mux::{Asking, Client, Delivery, Mux};
-use tko_port::{End, Event, Guest, Port, Presence, Shared, Stage, Talking, Turned};
+use tko_port::{
+    ClientEvent, End, Guest, Port, Presence, SessionStage, SharedParts, Talking, Turned,
+};
 use tko_roster::Driven;
 
 /// How often a client that asks a server each time and can go on is served at once. What is left
@@ -19,7 +21,7 @@ use tko_roster::Driven;
 const ASKS: u32 = 64;
 
 /// What serving a client once came to.
-pub(crate) enum Next {
+pub(crate) enum AfterServing {
     /// Nothing can be done for it, or it left.
     Rests,
     /// It asked a server, and can go on.
@@ -30,27 +32,29 @@ pub(crate) enum Next {
 
 /// Serves a client, and notes its number if it is to be served again.
 pub(crate) fn serve<P, L: Port + Drop, T: Talking<P> + Drop>(
-    mux: &mut Mux<Guest<L, T>, Shared<P>>,
+    mux: &mut Mux<Guest<L, T>, SharedParts<P>>,
     spent: &mut Vec<usize>,
     ends: &mut EndCounts,
     alloc: Global,
     number: usize,
     due: u64,
 )
-    requires ready { AreReady ⟦<Client<Guest<L, T>> as Driven<Shared<P>>>⟧.ready mux.old.roster }
-    requires linked { AreLinked ⟦<Guest<L, T> as Asking<Shared<P>>>⟧.awaited
+    requires ready { AreReady ⟦<Client<Guest<L, T>> as Driven<SharedParts<P>>>⟧.ready
+        mux.old.roster }
+    requires linked { AreLinked ⟦<Guest<L, T> as Asking<SharedParts<P>>>⟧.awaited
         mux.old.roster.slots mux.old.lines }
-    ensures served { IsServed (T.awaited, T.talk, L.port)
-        ⟦<Guest<L, T> as Asking<Shared<P>>>⟧.asks_for mux.old number due mux.new
+    ensures served { IsNumberServed (T.awaited, T.talk, L.port)
+        ⟦<Guest<L, T> as Asking<SharedParts<P>>>⟧.asks_for mux.old number due mux.new
         spent.old.items spent.new.items }
     ensures counted { ServeCounts (T.awaited, T.talk, L.port)
-        ⟦<Guest<L, T> as Asking<Shared<P>>>⟧.asks_for (mux.old, ends.old) number due
+        ⟦<Guest<L, T> as Asking<SharedParts<P>>>⟧.asks_for (mux.old, ends.old) number due
         (mux.new, ends.new) }
     ensures others { OthersStay number mux.old.roster.slots mux.new.roster.slots }
     ensures acted { HaveActed (T.awaited, T.talk, L.port) (mux.old.roster, ends.old)
         (mux.new.roster, ends.new) }
-    ensures ready { AreReady ⟦<Client<Guest<L, T>> as Driven<Shared<P>>>⟧.ready mux.new.roster }
-    ensures linked { AreLinked ⟦<Guest<L, T> as Asking<Shared<P>>>⟧.awaited
+    ensures ready { AreReady ⟦<Client<Guest<L, T>> as Driven<SharedParts<P>>>⟧.ready
+        mux.new.roster }
+    ensures linked { AreLinked ⟦<Guest<L, T> as Asking<SharedParts<P>>>⟧.awaited
         mux.new.roster.slots mux.new.lines }
 {
     if is_spent(mux, ends, alloc, number, due) {
@@ -60,14 +64,15 @@ pub(crate) fn serve<P, L: Port + Drop, T: Talking<P> + Drop>(
 
 /// Notes the client that something reached, so that it is served.
 pub(crate) fn list_reached<P, L: Port + Drop, T: Talking<P> + Drop>(
-    mux: &mut Mux<Guest<L, T>, Shared<P>>,
+    mux: &mut Mux<Guest<L, T>, SharedParts<P>>,
     numbers: &mut Vec<usize>,
     ends: &mut EndCounts,
     alloc: Global,
     delivery: &Delivery<Turned>,
 )
-    requires ready { AreReady ⟦<Client<Guest<L, T>> as Driven<Shared<P>>>⟧.ready mux.old.roster }
-    requires linked { AreLinked ⟦<Guest<L, T> as Asking<Shared<P>>>⟧.awaited
+    requires ready { AreReady ⟦<Client<Guest<L, T>> as Driven<SharedParts<P>>>⟧.ready
+        mux.old.roster }
+    requires linked { AreLinked ⟦<Guest<L, T> as Asking<SharedParts<P>>>⟧.awaited
         mux.old.roster.slots mux.old.lines }
     ensures ends { ListsReached (T.awaited, T.talk, L.port) (mux.old, ends.old)
         (Some delivery.now) numbers.old.items (mux.new, ends.new) numbers.new.items }
@@ -75,8 +80,9 @@ pub(crate) fn list_reached<P, L: Port + Drop, T: Talking<P> + Drop>(
         numbers.old.items numbers.new.items }
     ensures others { OthersStayFor delivery.now mux.old.roster.slots mux.new.roster.slots }
     ensures lines { mux.new.lines ≡ mux.old.lines }
-    ensures ready { AreReady ⟦<Client<Guest<L, T>> as Driven<Shared<P>>>⟧.ready mux.new.roster }
-    ensures linked { AreLinked ⟦<Guest<L, T> as Asking<Shared<P>>>⟧.awaited
+    ensures ready { AreReady ⟦<Client<Guest<L, T>> as Driven<SharedParts<P>>>⟧.ready
+        mux.new.roster }
+    ensures linked { AreLinked ⟦<Guest<L, T> as Asking<SharedParts<P>>>⟧.awaited
         mux.new.roster.slots mux.new.lines }
 {
     match delivery {
@@ -86,26 +92,28 @@ pub(crate) fn list_reached<P, L: Port + Drop, T: Talking<P> + Drop>(
 }
 
 /// Notes a number, so that its client is served. Without memory for that its client leaves, which
-/// counts as an end for want of memory; if a request of it is under way it stays where it rests, and
-/// else leaves as soon as none is.
+/// counts as an end for want of memory; if a request of it is under way it stays where it rests,
+/// and else leaves as soon as none is.
 pub(crate) fn list<P, L: Port + Drop, T: Talking<P> + Drop>(
-    mux: &mut Mux<Guest<L, T>, Shared<P>>,
+    mux: &mut Mux<Guest<L, T>, SharedParts<P>>,
     numbers: &mut Vec<usize>,
     ends: &mut EndCounts,
     alloc: Global,
     number: usize,
 )
-    requires ready { AreReady ⟦<Client<Guest<L, T>> as Driven<Shared<P>>>⟧.ready mux.old.roster }
-    requires linked { AreLinked ⟦<Guest<L, T> as Asking<Shared<P>>>⟧.awaited
+    requires ready { AreReady ⟦<Client<Guest<L, T>> as Driven<SharedParts<P>>>⟧.ready
+        mux.old.roster }
+    requires linked { AreLinked ⟦<Guest<L, T> as Asking<SharedParts<P>>>⟧.awaited
         mux.old.roster.slots mux.old.lines }
     ensures ends { ListEnds (T.awaited, T.talk, L.port) (mux.old, ends.old) number
         numbers.old.items (mux.new, ends.new) numbers.new.items }
-    ensures listed { IsListed (T.awaited, T.talk, L.port) mux.new.roster.slots number
+    ensures listed { IsNotedToServe (T.awaited, T.talk, L.port) mux.new.roster.slots number
         numbers.old.items numbers.new.items }
     ensures lines { mux.new.lines ≡ mux.old.lines }
     ensures others { OthersStay number mux.old.roster.slots mux.new.roster.slots }
-    ensures ready { AreReady ⟦<Client<Guest<L, T>> as Driven<Shared<P>>>⟧.ready mux.new.roster }
-    ensures linked { AreLinked ⟦<Guest<L, T> as Asking<Shared<P>>>⟧.awaited
+    ensures ready { AreReady ⟦<Client<Guest<L, T>> as Driven<SharedParts<P>>>⟧.ready
+        mux.new.roster }
+    ensures linked { AreLinked ⟦<Guest<L, T> as Asking<SharedParts<P>>>⟧.awaited
         mux.new.roster.slots mux.new.lines }
 {
     if numbers.push(number).is_err() {
@@ -116,27 +124,29 @@ pub(crate) fn list<P, L: Port + Drop, T: Talking<P> + Drop>(
 /// The client of a number leaves, which is counted as this end. If a request of it is under way, it
 /// stays where it rests, and else it is to leave so.
 fn drop_client<P, L: Port + Drop, T: Talking<P> + Drop>(
-    mux: &mut Mux<Guest<L, T>, Shared<P>>,
+    mux: &mut Mux<Guest<L, T>, SharedParts<P>>,
     ends: &mut EndCounts,
     alloc: Global,
     number: usize,
     why: End,
 )
-    requires ready { AreReady ⟦<Client<Guest<L, T>> as Driven<Shared<P>>>⟧.ready mux.old.roster }
-    requires linked { AreLinked ⟦<Guest<L, T> as Asking<Shared<P>>>⟧.awaited
+    requires ready { AreReady ⟦<Client<Guest<L, T>> as Driven<SharedParts<P>>>⟧.ready
+        mux.old.roster }
+    requires linked { AreLinked ⟦<Guest<L, T> as Asking<SharedParts<P>>>⟧.awaited
         mux.old.roster.slots mux.old.lines }
     ensures ends { DropEnds (T.awaited, T.talk, L.port) why (mux.old, ends.old) number
         (mux.new, ends.new) }
     ensures rests { RestAt (T.awaited, T.talk, L.port) mux.new.roster.slots number }
     ensures lines { mux.new.lines ≡ mux.old.lines }
     ensures others { OthersStay number mux.old.roster.slots mux.new.roster.slots }
-    ensures ready { AreReady ⟦<Client<Guest<L, T>> as Driven<Shared<P>>>⟧.ready mux.new.roster }
-    ensures linked { AreLinked ⟦<Guest<L, T> as Asking<Shared<P>>>⟧.awaited
+    ensures ready { AreReady ⟦<Client<Guest<L, T>> as Driven<SharedParts<P>>>⟧.ready
+        mux.new.roster }
+    ensures linked { AreLinked ⟦<Guest<L, T> as Asking<SharedParts<P>>>⟧.awaited
         mux.new.roster.slots mux.new.lines }
 {
     let Some(guest) = mux.close(number) else {
         if !is_resting(mux, number) {
-            let _ = mux.act(alloc, number, Event::Leave(why), 0);
+            let _ = mux.act(alloc, number, ClientEvent::Leave(why), 0);
         }
         return;
     };
@@ -147,10 +157,11 @@ fn drop_client<P, L: Port + Drop, T: Talking<P> + Drop>(
 /// Whether the client of a number, of which a request is under way, waits for what comes of that,
 /// or is to leave then.
 fn is_resting<P, L: Port + Drop, T: Talking<P> + Drop>(
-    mux: &Mux<Guest<L, T>, Shared<P>>,
+    mux: &Mux<Guest<L, T>, SharedParts<P>>,
     number: usize,
 ) -> bool
-    requires { IsKept ⟦<Guest<L, T> as Asking<Shared<P>>>⟧.awaited mux.now.roster.slots number }
+    requires { IsNotForgotten ⟦<Guest<L, T> as Asking<SharedParts<P>>>⟧.awaited
+        mux.now.roster.slots number }
     ensures rests { OnTrue result
         (RestAt (T.awaited, T.talk, L.port) mux.now.roster.slots number) }
     ensures here { OnFalse result (IsHere mux.now.roster.slots number) }
@@ -168,85 +179,89 @@ fn is_resting<P, L: Port + Drop, T: Talking<P> + Drop>(
 fn waits<P, T: Talking<P>>(talk: &T) -> bool
     ensures { OnTrue result ((T.talk talk.now).stage ≡ Stage.Waits) }
 {
-    talk.stage() == Stage::Waits
+    talk.stage() == SessionStage::Waits
 }
 
 /// Serves a client, as long as it asks a server each time and can go on, and returns whether it is
 /// to be served again later. If it ended, it leaves.
 fn is_spent<P, L: Port + Drop, T: Talking<P> + Drop>(
-    mux: &mut Mux<Guest<L, T>, Shared<P>>,
+    mux: &mut Mux<Guest<L, T>, SharedParts<P>>,
     ends: &mut EndCounts,
     alloc: Global,
     number: usize,
     due: u64,
 ) -> bool
-    requires ready { AreReady ⟦<Client<Guest<L, T>> as Driven<Shared<P>>>⟧.ready mux.old.roster }
-    requires linked { AreLinked ⟦<Guest<L, T> as Asking<Shared<P>>>⟧.awaited
+    requires ready { AreReady ⟦<Client<Guest<L, T>> as Driven<SharedParts<P>>>⟧.ready
+        mux.old.roster }
+    requires linked { AreLinked ⟦<Guest<L, T> as Asking<SharedParts<P>>>⟧.awaited
         mux.old.roster.slots mux.old.lines }
     ensures rests { OnFalse result
         (RestAt (T.awaited, T.talk, L.port) mux.new.roster.slots number) }
     ensures served { OnTrue result (WasServed (T.awaited, T.talk, L.port)
-        ⟦<Guest<L, T> as Asking<Shared<P>>>⟧.asks_for mux.old number due mux.new) }
+        ⟦<Guest<L, T> as Asking<SharedParts<P>>>⟧.asks_for mux.old number due mux.new) }
     ensures counted { ServeCounts (T.awaited, T.talk, L.port)
-        ⟦<Guest<L, T> as Asking<Shared<P>>>⟧.asks_for (mux.old, ends.old) number due
+        ⟦<Guest<L, T> as Asking<SharedParts<P>>>⟧.asks_for (mux.old, ends.old) number due
         (mux.new, ends.new) }
     ensures none { OnTrue result (ends.new ≡ ends.old) }
     ensures others { OthersStay number mux.old.roster.slots mux.new.roster.slots }
     ensures acted { HaveActed (T.awaited, T.talk, L.port) (mux.old.roster, ends.old)
         (mux.new.roster, ends.new) }
-    ensures ready { AreReady ⟦<Client<Guest<L, T>> as Driven<Shared<P>>>⟧.ready mux.new.roster }
-    ensures linked { AreLinked ⟦<Guest<L, T> as Asking<Shared<P>>>⟧.awaited
+    ensures ready { AreReady ⟦<Client<Guest<L, T>> as Driven<SharedParts<P>>>⟧.ready
+        mux.new.roster }
+    ensures linked { AreLinked ⟦<Guest<L, T> as Asking<SharedParts<P>>>⟧.awaited
         mux.new.roster.slots mux.new.lines }
 {
     for _ in 1..ASKS {
         match serve_once(mux, ends, alloc, number, due) {
-            Next::Rests => return false,
-            Next::AsksMore => {}
-            Next::Later => return true,
+            AfterServing::Rests => return false,
+            AfterServing::AsksMore => {}
+            AfterServing::Later => return true,
         }
     }
     match serve_once(mux, ends, alloc, number, due) {
-        Next::Rests => false,
-        Next::AsksMore => true,
-        Next::Later => true,
+        AfterServing::Rests => false,
+        AfterServing::AsksMore => true,
+        AfterServing::Later => true,
     }
 }
 
 /// Serves a client once. If it ended, it leaves.
 fn serve_once<P, L: Port + Drop, T: Talking<P> + Drop>(
-    mux: &mut Mux<Guest<L, T>, Shared<P>>,
+    mux: &mut Mux<Guest<L, T>, SharedParts<P>>,
     ends: &mut EndCounts,
     alloc: Global,
     number: usize,
     due: u64,
-) -> Next
-    requires ready { AreReady ⟦<Client<Guest<L, T>> as Driven<Shared<P>>>⟧.ready mux.old.roster }
-    requires linked { AreLinked ⟦<Guest<L, T> as Asking<Shared<P>>>⟧.awaited
+) -> AfterServing
+    requires ready { AreReady ⟦<Client<Guest<L, T>> as Driven<SharedParts<P>>>⟧.ready
+        mux.old.roster }
+    requires linked { AreLinked ⟦<Guest<L, T> as Asking<SharedParts<P>>>⟧.awaited
         mux.old.roster.slots mux.old.lines }
     ensures ends { OnceEnds (T.awaited, T.talk, L.port)
-        ⟦<Guest<L, T> as Asking<Shared<P>>>⟧.asks_for (mux.old, ends.old) number due result
+        ⟦<Guest<L, T> as Asking<SharedParts<P>>>⟧.asks_for (mux.old, ends.old) number due result
         (mux.new, ends.new) }
     ensures others { OthersStay number mux.old.roster.slots mux.new.roster.slots }
     ensures acted { HaveActed (T.awaited, T.talk, L.port) (mux.old.roster, ends.old)
         (mux.new.roster, ends.new) }
-    ensures ready { AreReady ⟦<Client<Guest<L, T>> as Driven<Shared<P>>>⟧.ready mux.new.roster }
-    ensures linked { AreLinked ⟦<Guest<L, T> as Asking<Shared<P>>>⟧.awaited
+    ensures ready { AreReady ⟦<Client<Guest<L, T>> as Driven<SharedParts<P>>>⟧.ready
+        mux.new.roster }
+    ensures linked { AreLinked ⟦<Guest<L, T> as Asking<SharedParts<P>>>⟧.awaited
         mux.new.roster.slots mux.new.lines }
 {
-    let Some(done) = mux.act(alloc, number, Event::Serve, due) else {
-        return Next::Rests;
+    let Some(done) = mux.act(alloc, number, ClientEvent::Serve, due) else {
+        return AfterServing::Rests;
     };
     if done.stopped.is_some() {
-        return Next::Later;
+        return AfterServing::Later;
     }
     match done.did {
-        Turned::Rests => Next::Rests,
-        Turned::Asks => Next::Rests,
-        Turned::AsksMore => Next::AsksMore,
+        Turned::Rests => AfterServing::Rests,
+        Turned::Asks => AfterServing::Rests,
+        Turned::AsksMore => AfterServing::AsksMore,
         Turned::Ends(why) => {
             drop_client(mux, ends, alloc, number, why);
-            Next::Rests
+            AfterServing::Rests
         }
-        Turned::Spent | Turned::Noted | Turned::Took => Next::Later,
+        Turned::Spent | Turned::Noted | Turned::Took => AfterServing::Later,
     }
 }

@@ -9,7 +9,8 @@ use tko_bytes::NoMemory;
 use tko_model::{Clear, Look, Mark};
 use tko_mux::Came;
 use tko_port::{
-    End, Event, MemoryPort, Port, Read, Settled, Shared, Stage, Talking, Tally, settle,
+    ClientEvent, End, MemoryPort, Port, Read, SessionStage, Settled, SharedParts, Talking, Tally,
+    settle,
 };
 use tko_text::{Key, Keys, Request};
 
@@ -21,7 +22,7 @@ struct EchoTalk {
     output: Vec<u8>,
     taken: u64,
     most: usize,
-    stage: Stage,
+    stage: SessionStage,
     is_ended: bool,
     request: Request,
     awaits: Option<usize>,
@@ -58,7 +59,7 @@ impl Talking<()> for EchoTalk {
     ghost same_stays = { λ _. tt };
 
     fn go_on(&mut self, _parts: &mut ()) -> Result<Option<Clear>, NoMemory> {
-        self.stage = Stage::Going;
+        self.stage = SessionStage::Going;
         if self.awaits.is_some() {
             return Ok(None);
         }
@@ -67,16 +68,16 @@ impl Talking<()> for EchoTalk {
             self.unread.clear();
         }
         self.stage = if self.output.len() > self.most {
-            Stage::Full
+            SessionStage::Full
         } else if self.is_ended {
-            Stage::Over
+            SessionStage::Over
         } else {
-            Stage::NeedsInput
+            SessionStage::NeedsInput
         };
         Ok(None)
     }
 
-    fn stage(&self) -> Stage {
+    fn stage(&self) -> SessionStage {
         self.stage
     }
 
@@ -96,7 +97,7 @@ impl Talking<()> for EchoTalk {
     fn sent(&mut self, _parts: &mut (), count: usize) {
         self.output.drain(..count);
         self.taken = self.taken.saturating_add(count as u64);
-        self.stage = Stage::Going;
+        self.stage = SessionStage::Going;
     }
 
     fn feed(&mut self, _parts: &mut (), piece: &[u8]) -> Result<(), NoMemory> {
@@ -135,7 +136,7 @@ fn new_echo(alloc: Global, most: usize) -> Result<EchoTalk, Fail>
         output: Vec::new(alloc),
         taken: 0,
         most,
-        stage: Stage::Going,
+        stage: SessionStage::Going,
         is_ended: false,
         request: Request::Get {
             keys: Keys::new(vec![in alloc; key]?),
@@ -170,7 +171,7 @@ fn a_client_that_takes_no_more_rests_until_it_does(rt: HostRuntime) -> Result<()
 #[test]
 fn a_client_is_served_at_the_end_of_the_turn(rt: HostRuntime) -> Result<(), Fail> {
     let alloc = rt.alloc();
-    let shared = Shared {
+    let shared = SharedParts {
         parts: (),
         buffer: vec![in alloc; 0; 4]?,
     };
@@ -244,7 +245,7 @@ struct AskTalk {
     awaits: Option<usize>,
     output: Vec<u8>,
     taken: u64,
-    stage: Stage,
+    stage: SessionStage,
 }
 
 /// The permission to ask a server that is up.
@@ -288,16 +289,16 @@ impl Talking<()> for AskTalk {
     ghost same_stays = { λ _. tt };
 
     fn go_on(&mut self, _parts: &mut ()) -> Result<Option<Clear>, NoMemory> {
-        self.stage = Stage::Waits;
+        self.stage = SessionStage::Waits;
         if self.awaits.is_some() {
             return Ok(None);
         }
         if self.has_come {
-            self.stage = Stage::Over;
+            self.stage = SessionStage::Over;
             return Ok(None);
         }
         if self.has_asked {
-            self.stage = Stage::NeedsInput;
+            self.stage = SessionStage::NeedsInput;
             return Ok(None);
         }
         self.has_asked = true;
@@ -305,7 +306,7 @@ impl Talking<()> for AskTalk {
         Ok(clear_of(0))
     }
 
-    fn stage(&self) -> Stage {
+    fn stage(&self) -> SessionStage {
         self.stage
     }
 
@@ -366,7 +367,7 @@ fn new_asker(alloc: Global) -> Result<AskTalk, Fail>
         awaits: None,
         output: Vec::new(alloc),
         taken: 0,
-        stage: Stage::NeedsInput,
+        stage: SessionStage::NeedsInput,
     })
 }
 
@@ -396,7 +397,7 @@ fn end_turn<P, L: Port + Drop, T: Talking<P> + Drop>(
 #[test]
 fn a_request_is_written_and_the_response_reaches_its_client(rt: HostRuntime) -> Result<(), Fail> {
     let alloc = rt.alloc();
-    let shared = Shared {
+    let shared = SharedParts {
         parts: (),
         buffer: vec![in alloc; 0; 4]?,
     };
@@ -412,7 +413,7 @@ fn a_request_is_written_and_the_response_reaches_its_client(rt: HostRuntime) -> 
     worker.connecting(0, new_port(alloc, b"VERSION 1\r\n".as_slice())?);
     worker.connected(0);
     assert!(rt; end_turn(alloc, &mut worker, 2));
-    worker.note_server(0, Event::Readable);
+    worker.note_server(0, ClientEvent::Readable);
     assert!(rt; !end_turn(alloc, &mut worker, 3));
     assert!(rt; end_turn(alloc, &mut worker, 3));
     assert!(rt; !worker.wants(0) && !worker.is_awake(0));
@@ -421,7 +422,7 @@ fn a_request_is_written_and_the_response_reaches_its_client(rt: HostRuntime) -> 
         worker.clients.open(alloc, next, new_asker(alloc)?)?,
         number
     );
-    worker.note_server(0, Event::Readable);
+    worker.note_server(0, ClientEvent::Readable);
     assert!(rt; worker.is_awake(0));
     Ok(())
 }
@@ -429,7 +430,7 @@ fn a_request_is_written_and_the_response_reaches_its_client(rt: HostRuntime) -> 
 #[test]
 fn a_client_whose_server_is_late_is_told_so(rt: HostRuntime) -> Result<(), Fail> {
     let alloc = rt.alloc();
-    let shared = Shared {
+    let shared = SharedParts {
         parts: (),
         buffer: vec![in alloc; 0; 4]?,
     };
@@ -453,7 +454,7 @@ fn a_client_that_leaves_keeps_its_number_until_its_request_is_done(
     rt: HostRuntime,
 ) -> Result<(), Fail> {
     let alloc = rt.alloc();
-    let shared = Shared {
+    let shared = SharedParts {
         parts: (),
         buffer: vec![in alloc; 0; 4]?,
     };
@@ -485,7 +486,7 @@ fn a_client_that_leaves_keeps_its_number_until_its_request_is_done(
 #[test]
 fn a_response_does_not_wait_for_the_next_event(rt: HostRuntime) -> Result<(), Fail> {
     let alloc = rt.alloc();
-    let shared = Shared {
+    let shared = SharedParts {
         parts: (),
         buffer: vec![in alloc; 0; 4]?,
     };
@@ -506,7 +507,7 @@ fn a_response_does_not_wait_for_the_next_event(rt: HostRuntime) -> Result<(), Fa
     worker.connecting(0, port);
     worker.connected(0);
     assert!(rt; end_turn(alloc, &mut worker, 2));
-    worker.note_server(0, Event::Readable);
+    worker.note_server(0, ClientEvent::Readable);
     assert!(rt; !end_turn(alloc, &mut worker, 3));
     assert!(rt; end_turn(alloc, &mut worker, 3));
     assert!(rt; !worker.clients.has_client(number));

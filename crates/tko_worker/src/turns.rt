@@ -3,7 +3,7 @@ ghost use Rattle.std.specs.Prelude.{◌≡◌, ◌<◌, [], IfNone, length};
 ghost use Rattle.tko_mux.specs.Muxes.{HasNoneLeaving, line_at};
 ghost use Rattle.tko_port.specs.Guests.{IsNotice};
 ghost use Rattle.tko_worker.specs.Acts.{HasActed};
-ghost use Rattle.tko_worker.specs.Servers.{HasLeftNext, HasTaken};
+ghost use Rattle.tko_worker.specs.Servers.{HasLeftNext, HasResponseTaken};
 ghost use Rattle.tko_worker.specs.Workers.{IsInOrder, IsNoted};
 
 use crate::Worker;
@@ -12,7 +12,7 @@ use std::alloc::Global;
 use std::mem::swap;
 use tko_mux::{Asking, Delivery};
 use tko_pipe::ShutCause;
-use tko_port::{End, Event, Guest, Port, Shared, Talking, Turned};
+use tko_port::{ClientEvent, End, Guest, Port, SharedParts, Talking, Turned};
 
 impl<P, L: Port + Drop, T: Talking<P> + Drop> Worker<L, T, P> {
     /// An event said that a client's port is readable.
@@ -23,7 +23,7 @@ impl<P, L: Port + Drop, T: Talking<P> + Drop> Worker<L, T, P> {
         ensures acted { HasActed (T.awaited, T.talk, L.port) self.old self.new }
         ensures order { IsInOrder (T.awaited, T.talk, L.port) T.ready self.new }
     {
-        self.note(alloc, number, Event::Readable);
+        self.note(alloc, number, ClientEvent::Readable);
     }
 
     /// An event said that a client's port is writable.
@@ -34,7 +34,7 @@ impl<P, L: Port + Drop, T: Talking<P> + Drop> Worker<L, T, P> {
         ensures acted { HasActed (T.awaited, T.talk, L.port) self.old self.new }
         ensures order { IsInOrder (T.awaited, T.talk, L.port) T.ready self.new }
     {
-        self.note(alloc, number, Event::Writable);
+        self.note(alloc, number, ClientEvent::Writable);
     }
 
     /// An event said that a client sends no more.
@@ -45,7 +45,7 @@ impl<P, L: Port + Drop, T: Talking<P> + Drop> Worker<L, T, P> {
         ensures acted { HasActed (T.awaited, T.talk, L.port) self.old self.new }
         ensures order { IsInOrder (T.awaited, T.talk, L.port) T.ready self.new }
     {
-        self.note(alloc, number, Event::Ended);
+        self.note(alloc, number, ClientEvent::Ended);
     }
 
     /// A client is to leave: nothing is read from it or written to it any more, and it ends so. If
@@ -57,11 +57,11 @@ impl<P, L: Port + Drop, T: Talking<P> + Drop> Worker<L, T, P> {
         ensures acted { HasActed (T.awaited, T.talk, L.port) self.old self.new }
         ensures order { IsInOrder (T.awaited, T.talk, L.port) T.ready self.new }
     {
-        self.note(alloc, number, Event::Leave(why));
+        self.note(alloc, number, ClientEvent::Leave(why));
     }
 
     /// Notes an event at a client's port, and that this client is to be served.
-    fn note(&mut self, alloc: Global, number: usize, event: Event)
+    fn note(&mut self, alloc: Global, number: usize, event: ClientEvent)
         requires event { IsNotice event }
         requires order { IsInOrder (T.awaited, T.talk, L.port) T.ready self.old }
         ensures noted { IsNoted (T.awaited, T.talk, L.port) event self.old number
@@ -91,9 +91,10 @@ impl<P, L: Port + Drop, T: Talking<P> + Drop> Worker<L, T, P> {
         requires server { server < length self.old.mux.lines }
         requires left { HasNoneLeaving (line_at self.old.mux server) }
         requires order { IsInOrder (T.awaited, T.talk, L.port) T.ready self.old }
-        ensures taken { HasTaken (T.awaited, T.talk, L.port)
-            ⟦<Guest<L, T> as Asking<Shared<P>>>⟧.asks_for
-            ⟦<Guest<L, T> as Asking<Shared<P>>>⟧.waits_for self.old server due result self.new }
+        ensures taken { HasResponseTaken (T.awaited, T.talk, L.port)
+            ⟦<Guest<L, T> as Asking<SharedParts<P>>>⟧.asks_for
+            ⟦<Guest<L, T> as Asking<SharedParts<P>>>⟧.waits_for self.old server due
+            result self.new }
         ensures acted { HasActed (T.awaited, T.talk, L.port) self.old self.new }
         ensures order { IsInOrder (T.awaited, T.talk, L.port) T.ready self.new }
     {
@@ -119,7 +120,7 @@ impl<P, L: Port + Drop, T: Talking<P> + Drop> Worker<L, T, P> {
         requires server { server < length self.old.mux.lines }
         requires order { IsInOrder (T.awaited, T.talk, L.port) T.ready self.old }
         ensures told { HasLeftNext (T.awaited, T.talk, L.port)
-            ⟦<Guest<L, T> as Asking<Shared<P>>>⟧.asks_for self.old server due result self.new }
+            ⟦<Guest<L, T> as Asking<SharedParts<P>>>⟧.asks_for self.old server due result self.new }
         ensures none { IfNone result (HasNoneLeaving (line_at self.new.mux server)) }
         ensures acted { HasActed (T.awaited, T.talk, L.port) self.old self.new }
         ensures order { IsInOrder (T.awaited, T.talk, L.port) T.ready self.new }

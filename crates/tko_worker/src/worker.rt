@@ -2,11 +2,11 @@
 ghost use Rattle.std.specs.Prelude.{◌≡◌, ◌<◌, ℕ, [], None, IfErr, IfOk, IsSome, OnErr, is_some, length};
 ghost use Rattle.std.specs.Bool.{OnFalse, OnTrue};
 ghost use Rattle.tko_roster.specs.Rosters.{session_at};
-ghost use Rattle.tko_mux.specs.Linking.{IsKept, awaited_at};
+ghost use Rattle.tko_mux.specs.Linking.{IsNotForgotten, awaited_at};
 ghost use Rattle.tko_port.specs.Lives.{ReadyAt};
 ghost use Rattle.tko_worker.specs.Acts.{HasActed};
 ghost use Rattle.tko_worker.specs.Counts.{no_ends};
-ghost use Rattle.tko_worker.specs.Workers.{IsInOrder, IsOpened, tally_at};
+ghost use Rattle.tko_worker.specs.Workers.{IsClientOpened, IsInOrder, tally_at};
 
 use crate::EndCounts;
 use crate::serving::list;
@@ -15,12 +15,12 @@ use std::marker::Model;
 use std::mem::replace;
 use tko_bytes::NoMemory;
 use tko_mux::{Asking, Mux};
-use tko_port::{Guest, Port, Presence, Shared, Talking, Tally};
+use tko_port::{Guest, Port, Presence, SharedParts, Talking, Tally};
 
 /// The clients of a worker, and which of them are to be served.
 #[derive(Drop)]
 pub struct Worker<L, T, P> {
-    pub(crate) mux: Mux<Guest<L, T>, Shared<P>>,
+    pub(crate) mux: Mux<Guest<L, T>, SharedParts<P>>,
     /// The numbers of clients that are to be served in this turn.
     pub(crate) touched: Vec<usize>,
     /// And of those that are served again in the next.
@@ -47,10 +47,10 @@ impl<P: Drop, L: Port + Drop, T: Talking<P> + Drop> Worker<L, T, P> {
     /// out, what is shared comes back.
     pub fn new(
         alloc: Global,
-        shared: Shared<P>,
+        shared: SharedParts<P>,
         servers: usize,
         limit: u64,
-    ) -> Result<Worker<L, T, P>, Shared<P>>
+    ) -> Result<Worker<L, T, P>, SharedParts<P>>
         ensures order { IfOk result (λ worker.
             IsInOrder (T.awaited, T.talk, L.port) T.ready worker) }
         ensures parts { IfOk result (λ worker. worker.mux.roster.parts ≡ shared) }
@@ -76,8 +76,8 @@ impl<P, L: Port + Drop, T: Talking<P> + Drop> Worker<L, T, P> {
         requires idle { T.awaited talk ≡ [] }
         requires session { ReadyAt T.ready self.old.mux.roster.parts.parts (L.port port) talk }
         requires order { IsInOrder (T.awaited, T.talk, L.port) T.ready self.old }
-        ensures ok { IfOk result (λ number. IsOpened (T.awaited, T.talk, L.port) self.old port talk
-            number self.new) }
+        ensures ok { IfOk result (λ number.
+            IsClientOpened (T.awaited, T.talk, L.port) self.old port talk number self.new) }
         ensures err { OnErr result (self.new ≡ self.old) }
         ensures acted { HasActed (T.awaited, T.talk, L.port) self.old self.new }
         ensures order { IsInOrder (T.awaited, T.talk, L.port) T.ready self.new }
@@ -152,9 +152,10 @@ impl<P, L: Port + Drop, T: Talking<P> + Drop> Worker<L, T, P> {
 
     /// Whether a client has the number, and no request of it is under way.
     pub fn is_idle(&self, number: usize) -> bool
-        ensures idle { OnTrue result (awaited_at ⟦<Guest<L, T> as Asking<Shared<P>>>⟧.awaited
+        ensures idle { OnTrue result (awaited_at ⟦<Guest<L, T> as Asking<SharedParts<P>>>⟧.awaited
             self.now.mux.roster.slots number ≡ []) }
-        ensures not { OnFalse result (IsKept ⟦<Guest<L, T> as Asking<Shared<P>>>⟧.awaited
+        ensures not { OnFalse result
+            (IsNotForgotten ⟦<Guest<L, T> as Asking<SharedParts<P>>>⟧.awaited
             self.now.mux.roster.slots number) }
     {
         self.mux.is_idle(number)
@@ -189,7 +190,7 @@ impl<P, L: Port + Drop, T: Talking<P> + Drop> Worker<L, T, P> {
         } = self;
         drop(touched);
         drop(spent);
-        let Shared { parts, buffer } = mux.into_parts();
+        let SharedParts { parts, buffer } = mux.into_parts();
         drop(buffer);
         parts
     }

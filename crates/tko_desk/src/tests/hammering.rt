@@ -9,7 +9,7 @@ mod order;
 mod threads;
 
 use crate::{Book, Desk, Kind, Share, gather};
-use order::{Made, have_order, is_change};
+use order::{TimedCall, have_order, is_change};
 use std::alloc::Global;
 use std::marker::Brand;
 use std::process::Abort;
@@ -17,7 +17,7 @@ use std::sync::atomic::AtomicU64;
 use std::sync::{Mutex, Wait};
 use std::test::Fail;
 use std::thread::{Threads, join};
-use threads::{Shared, hammer, lend};
+use threads::{ThreadsShared, hammer, lend};
 use tko_model::OneGroup;
 use tko_tracker::{IdlePass, Named, Tracker, close, open};
 
@@ -31,12 +31,12 @@ const SETTINGS: OneGroup = OneGroup {
 };
 
 /// What is left once the three are done.
-struct Ended {
+struct ThreadsEnded {
     passes: Vec<IdlePass>,
     book: Book,
     shares: (Share, Share, Share),
-    one: Vec<Made>,
-    other: Vec<Made>,
+    one: Vec<TimedCall>,
+    other: Vec<TimedCall>,
     lent: u64,
 }
 
@@ -45,10 +45,10 @@ fn beside<R: Threads + Wait + Abort + Sync, N: Named + Send + Sync>(
     rt: &R,
     alloc: Global,
     tracker: &Tracker,
-    shared: &Shared<N>,
+    shared: &ThreadsShared<N>,
     second: Share,
     third: Share,
-) -> ((Share, Vec<Made>), (Share, u64))
+) -> ((Share, Vec<TimedCall>), (Share, u64))
     requires named { tracker.now ≡ N.tracker }
     requires servers { 0 < N.tracker.settings.servers }
 {
@@ -67,13 +67,13 @@ fn run<R: Threads + Wait + Abort + Sync, N: Named + Send + Sync>(
     passes: Vec<IdlePass>,
     book: Book,
     shares: (Share, Share, Share),
-) -> Ended
+) -> ThreadsEnded
     requires named { tracker.now ≡ N.tracker }
     requires passes { ArePasses N.tracker passes.items }
     requires servers { 0 < N.tracker.settings.servers }
     ensures { All (IsOf tracker.now) result.passes.items }
 {
-    let shared = Shared::<N> {
+    let shared = ThreadsShared::<N> {
         desk: Desk::open(passes),
         book: Mutex::new(book),
         clock: AtomicU64::new(0),
@@ -87,7 +87,7 @@ fn run<R: Threads + Wait + Abort + Sync, N: Named + Send + Sync>(
             requires { (tracker.now ≡ N.tracker) × (0 < N.tracker.settings.servers) }
         { beside(rt, alloc, tracker, &shared, second, third) },
     );
-    Ended {
+    ThreadsEnded {
         passes: shared.desk.end(),
         book: shared.book.into_inner(),
         shares: (one.0, two.0, three.0),
@@ -111,7 +111,7 @@ fn one_order_of_200_000_calls(rt: HostRuntime) -> Result<(), Fail> {
     let (tracker, passes) = open(rt.alloc(), SETTINGS.settings(rt.alloc())?)?;
     let (book, shares) = Book::open(rt.alloc(), 1, 3)?;
     let shares = three(shares).expect(&rt, "three shares");
-    let Ended {
+    let ThreadsEnded {
         passes,
         book,
         shares,

@@ -9,8 +9,8 @@ use tko_bytes::NoMemory;
 use tko_reply::Outbox;
 
 impl KeysAtOnce {
-    /// Puts the reply at the end of an outbox: all values and `END`, or the whole reply to the first
-    /// key that got no list of values.
+    /// Puts the reply at the end of an outbox: all values and `END`, or the whole reply to the
+    /// first key that got no list of values.
     pub fn finish(self, outbox: &mut Outbox) -> Result<(), NoMemory>
         ensures ok { OnOk result (outbox.new ≡ outbox.old ++ reply_in self.slots) }
         ensures err { OnErr result (Extends outbox.old outbox.new) }

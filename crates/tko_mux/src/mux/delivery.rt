@@ -4,7 +4,7 @@ ghost use Rattle.tko_roster.specs.Rosters.{AreReady};
 ghost use Rattle.tko_mux.specs.Awaits.{times_due};
 ghost use Rattle.tko_mux.specs.Lines.{first_on};
 ghost use Rattle.tko_mux.specs.Linking.{AreLinked, AwaitsFirst, IsFree, IsLoose, awaited_at, waiters_at};
-ghost use Rattle.tko_mux.specs.Muxes.{HasNoneLeaving, IsDelivered, IsMade, IsRead, IsReadFor, LeaveEnds, ReadsOn, line_at};
+ghost use Rattle.tko_mux.specs.Muxes.{HasNoneLeaving, IsDelivered, IsMade, IsReadFor, IsResponseRead, ReadsOn, TellEnds, line_at};
 
 use crate::{Asking, Came, Client, Given, Line, Mux};
 use std::alloc::Global;
@@ -43,8 +43,8 @@ impl<P, S: Asking<P> + Drop> Mux<S, P> {
         requires left { HasNoneLeaving (line_at self.old server) }
         requires ready { AreReady ⟦<Client<S> as Driven<P>>⟧.ready self.old.roster }
         requires linked { AreLinked S.awaited self.old.roster.slots self.old.lines }
-        ensures read { IsRead S.acts S.awaited S.asks_for S.waits_for self.old server due result
-            self.new }
+        ensures read { IsResponseRead S.acts S.awaited S.asks_for S.waits_for self.old
+            server due result self.new }
         ensures ready { AreReady ⟦<Client<S> as Driven<P>>⟧.ready self.new.roster }
         ensures linked { AreLinked S.awaited self.new.roster.slots self.new.lines }
     {
@@ -63,7 +63,7 @@ impl<P, S: Asking<P> + Drop> Mux<S, P> {
         requires server { server < length self.old.lines }
         requires ready { AreReady ⟦<Client<S> as Driven<P>>⟧.ready self.old.roster }
         requires linked { AreLinked S.awaited self.old.roster.slots self.old.lines }
-        ensures left { LeaveEnds S.acts S.awaited S.asks_for self.old server due result self.new }
+        ensures left { TellEnds S.acts S.awaited S.asks_for self.old server due result self.new }
         ensures none { IfNone result (HasNoneLeaving (line_at self.new server)) }
         ensures ready { AreReady ⟦<Client<S> as Driven<P>>⟧.ready self.new.roster }
         ensures linked { AreLinked S.awaited self.new.roster.slots self.new.lines }
@@ -113,8 +113,8 @@ impl<P, S: Asking<P> + Drop> Mux<S, P> {
         requires loose { IsLoose (awaited_at S.awaited self.old.roster.slots)
             (waiters_at self.old.lines) number server }
         requires ready { AreReady ⟦<Client<S> as Driven<P>>⟧.ready self.old.roster }
-        ensures made { IsMade S.acts S.awaited S.asks_for self.old number (Given.Outcome server came)
-            due result self.new }
+        ensures made { IsMade S.acts S.awaited S.asks_for self.old number
+            (Given.Outcome server came) due result self.new }
         ensures ready { AreReady ⟦<Client<S> as Driven<P>>⟧.ready self.new.roster }
         ensures linked { AreLinked S.awaited self.new.roster.slots self.new.lines }
     {

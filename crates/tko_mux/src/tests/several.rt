@@ -60,7 +60,8 @@ impl Asking<()> for Several {
 
     ghost stays = { λ _ _. Unit {0} };
 
-    ghost awaited = { λ it. replicate (length it.zero.items) 0 ++ replicate (length it.one.items) 1 };
+    ghost awaited = { λ it. replicate (length it.zero.items) 0
+        ++ replicate (length it.one.items) 1 };
 
     ghost asks_for = { λ it. if it.last == 0 then slice_get it.zero.items (length it.zero.items - 1)
         else slice_get it.one.items (length it.one.items - 1) };

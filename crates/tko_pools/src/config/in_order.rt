@@ -4,7 +4,7 @@ ghost use Rattle.tko_pools.specs.Configs.{in_order, numbers_below, targets_of};
 ghost use Rattle.tko_pools.specs.Reasons.{max_servers};
 
 use super::Config;
-use crate::numbering::Addresses;
+use crate::numbering::NumberedAddresses;
 use crate::route::DEFAULT_EXPTIME;
 use std::alloc::Global;
 use tko_bytes::NoMemory;
@@ -23,7 +23,7 @@ impl Config {
             groups: vec![in alloc; 0; addresses.len()]?,
             soft_limits: vec![in alloc; None; 1]?,
             children: children_in_order(alloc, addresses.len())?,
-            addresses: Addresses::of(addresses),
+            addresses: NumberedAddresses::of(addresses),
             failover_exptime: DEFAULT_EXPTIME,
         })
     }

@@ -3,11 +3,11 @@ ghost use Rattle.std.specs.Prelude.{◌≡◌, ℕ, IfOk, OnErr, OnOk};
 ghost use Rattle.std.specs.Option.{option_copied};
 ghost use Rattle.tko_reply.specs.Answering.{Extends};
 ghost use Rattle.tko_reply.specs.Answers.{IsKeyed};
-ghost use Rattle.tko_reply.specs.Asking.{Continues, HasFront, IsFirst, Replies, front_of};
+ghost use Rattle.tko_reply.specs.Asking.{ContinuesKeys, HasFront, IsFirst, Replies, front_of};
 ghost use Rattle.tko_reply.specs.Standing.{shifted_key, whole_of};
-ghost use Rattle.tko_reply.specs.declared.asking.Share.TheVariants.{Joined};
+ghost use Rattle.tko_reply.specs.declared.asking.ReplyPart.TheVariants.{Joined};
 
-use crate::asking::{OneKey, Share};
+use crate::asking::{OneKey, ReplyPart};
 use crate::keys_left::KeysLeft;
 use crate::outbox::Outbox;
 use crate::requests::{has_several, set_key, split_keys};
@@ -26,7 +26,7 @@ impl OneKey {
             return Ok(());
         }
         let left = split_keys(&mut self.request, alloc)?;
-        self.share = Share::Joined(waiting, left);
+        self.share = ReplyPart::Joined(waiting, left);
         Ok(())
     }
 
@@ -34,7 +34,7 @@ impl OneKey {
     pub fn shift(&mut self, count: usize)
         ensures { self.new ≡ shifted_key count self.old }
     {
-        if let Share::Joined(begin, _) = &mut self.share {
+        if let ReplyPart::Joined(begin, _) = &mut self.share {
             *begin = begin.saturating_sub(count);
         }
     }
@@ -53,12 +53,12 @@ impl OneKey {
         ensures err { OnErr result (Extends (front_of self.old.share outbox.old) outbox.new) }
     {
         match &self.share {
-            Share::Whole(silent) => outbox.append_unless(*silent, response),
-            Share::Joined(begin, _) => {
+            ReplyPart::Whole(silent) => outbox.append_unless(*silent, response),
+            ReplyPart::Joined(begin, _) => {
                 if outbox.append_next(*begin, response)? {
                     return Ok(());
                 }
-                self.share = Share::Whole(false);
+                self.share = ReplyPart::Whole(false);
                 Ok(())
             }
         }
@@ -72,7 +72,7 @@ pub(crate) fn join_next(
     request: &mut Request,
     left: &mut KeysLeft,
 ) -> Result<bool, NoMemory>
-    ensures ok { IfOk result (λ keyed. (begin : ℕ) → Continues
+    ensures ok { IfOk result (λ keyed. (begin : ℕ) → ContinuesKeys
         (record { request = request.old; share = Joined begin left.old }) outbox.old
         keyed (record { request = request.new; share = Joined begin left.new })
         outbox.new) }

@@ -3,7 +3,7 @@ ghost use Rattle.std.specs.Prelude.{◌≡◌, ◌≤◌, ◌↔◌, ◌++◌, i
 ghost use Rattle.std.specs.Option.{option_copied};
 ghost use Rattle.tko_reply.specs.Answering.{Extends};
 ghost use Rattle.tko_reply.specs.Cuts.{LooksSome};
-ghost use Rattle.tko_reply.specs.Replies.{end_line, text_of_answer, values_in};
+ghost use Rattle.tko_reply.specs.Replies.{end_line, text_of_answer, values_text_in};
 ghost use Rattle.tko_reply.specs.Status.{IsStatusAfter};
 
 use super::Outbox;
@@ -52,9 +52,9 @@ impl Outbox {
     /// returns whether it is one.
     pub(crate) fn append_values(&mut self, response: Option<&Response>) -> Result<bool, NoMemory>
         ensures listed { IfOk result (λ listed.
-            IsTrue listed ↔ IsSome (values_in (option_copied response.entry))) }
+            IsTrue listed ↔ IsSome (values_text_in (option_copied response.entry))) }
         ensures ok { OnOk result
-            (self.new ≡ self.old ++ unwrap_or (values_in (option_copied response.entry)) []) }
+            (self.new ≡ self.old ++ unwrap_or (values_text_in (option_copied response.entry)) []) }
         ensures err { OnErr result (self.new ≡ self.old) }
     {
         let Some(response) = response else {
@@ -79,9 +79,9 @@ impl Outbox {
     ) -> Result<bool, NoMemory>
         requires { waiting ≤ length self.old }
         ensures listed { IfOk result (λ listed.
-            IsTrue listed ↔ IsSome (values_in (option_copied response.entry))) }
+            IsTrue listed ↔ IsSome (values_text_in (option_copied response.entry))) }
         ensures ok { IfOk result (λ listed. MatchBool listed
-            (self.new ≡ self.old ++ unwrap_or (values_in (option_copied response.entry)) [])
+            (self.new ≡ self.old ++ unwrap_or (values_text_in (option_copied response.entry)) [])
             (self.new ≡ take waiting self.old ++ text_of_answer (option_copied response.entry))) }
         ensures err { OnErr result (Extends (take waiting self.old) self.new) }
     {

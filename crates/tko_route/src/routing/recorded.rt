@@ -1,8 +1,8 @@
 //! A send that is out ends where what came of it was recorded.
 ghost use Rattle.std.specs.Prelude.{◌≡◌, ◌↔◌, ◌+◌, ◌<◌, ◌≤◌, ◌∷◌, ◌++◌, ℕ, All, IsSome, List, length, vec_capacity};
-ghost use Rattle.tko_route.specs.Calls.{Call};
+ghost use Rattle.tko_route.specs.Calls.{RoutedCall};
 ghost use Rattle.tko_route.specs.Routing.{FindsUp, GoesOn, IsAwaited, IsBrought, IsConcluded, Reached, came_of, last_place, told_of, tries};
-ghost use Rattle.tko_route.specs.Trail.{Makes, op_of};
+ghost use Rattle.tko_route.specs.Trail.{MakesTrail, op_of};
 ghost use Rattle.tko_text.specs.declared.request.Request.{Request};
 
 use crate::attempt::{Attempt, Trail};
@@ -18,9 +18,9 @@ impl Waiting {
     /// The attempts before this send, and its own.
     fn attempts_with(self, outcome: Outcome, reply: Option<Reply>) -> Vec<Attempt>
         requires { IsSome reply ↔ IsSome (op_of outcome) }
-        ensures calls { (form : ℕ → Request) (calls : List Call)
+        ensures calls { (form : ℕ → Request) (calls : List RoutedCall)
             → FindsUp form calls self.attempts self.server
-            → Makes form (calls ++ came_of form self outcome ∷ told_of self outcome reply)
+            → MakesTrail form (calls ++ came_of form self outcome ∷ told_of self outcome reply)
             result.items }
         ensures one { length result.items ≡ length self.attempts + 1 }
         ensures room { vec_capacity result ≡ self.room }
@@ -48,7 +48,8 @@ impl Waiting {
         requires health { All (λ target. target < H.servers health.old) targets.now }
         requires awaited { IsAwaited targets.now self }
         requires replied { IsSome reply ↔ IsSome (op_of outcome) }
-        ensures calls { GoesOn H.steps health.old (λ more. (form : ℕ → Request) (calls : List Call)
+        ensures calls { GoesOn H.steps health.old (λ more.
+            (form : ℕ → Request) (calls : List RoutedCall)
             → FindsUp form calls self.attempts self.server
             → Reached targets.now form
             (calls ++ came_of form self outcome ∷ (told_of self outcome reply ++ more)) result)

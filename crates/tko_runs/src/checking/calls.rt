@@ -10,18 +10,18 @@ use tko_model::{Op, Reply};
 
 /// The calls up to some event, in the order of their begins.
 #[derive(Drop)]
-pub(crate) struct Calls {
+pub(crate) struct CheckedCalls {
     /// The place of the call that each thread began last.
     pub latest: Vec<usize>,
     pub all: Vec<CheckedCall>,
 }
 
-impl Calls {
+impl CheckedCalls {
     /// So many threads, none of which has begun a call.
-    pub fn open(alloc: Global, threads: usize) -> Result<Calls, NoMemory>
+    pub fn open(alloc: Global, threads: usize) -> Result<CheckedCalls, NoMemory>
         ensures { IfOk result (AreOpened threads) }
     {
-        Ok(Calls {
+        Ok(CheckedCalls {
             latest: vec![in alloc; 0usize; threads]?,
             all: Vec::new(alloc),
         })

@@ -3,7 +3,7 @@ ghost use Rattle.std.specs.Prelude.{◌≡◌, ◌+◌, ◌<◌, ◌^◌, ◌↔
 ghost use Rattle.tko_model.specs.Ranges.{IsWithinRanges};
 ghost use Rattle.tko_model.specs.Tracker.{changed, server_at};
 ghost use Rattle.tko_runs.specs.CheckStates.{AllValid, Shows, transition_of, with_change};
-ghost use Rattle.tko_runs.specs.States.{HasServer, written};
+ghost use Rattle.tko_runs.specs.States.{HasServer, servers_written};
 
 use crate::checking::point::CheckedCall;
 use crate::checking::words::is_same;
@@ -36,7 +36,7 @@ pub(crate) fn effect_of(
     requires place { HasServer servers.now place }
     ensures at { result.at ≡ at }
     ensures shows { Shows settings.now servers.now call.now
-        (written servers.now place left) result }
+        (servers_written servers.now place left) result }
 {
     match place {
         Place::Server(server) => match left {

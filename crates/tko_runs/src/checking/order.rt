@@ -1,6 +1,6 @@
 //! Where each call of a run takes effect: its linearization point.
 ghost use Rattle.std.specs.Prelude.{◌≡◌, ◌++◌, [], ◌∷◌, OnOk};
-ghost use Rattle.tko_runs.specs.Orders.{number_at};
+ghost use Rattle.tko_runs.specs.Orders.{point_number_at};
 
 use std::alloc::Global;
 use std::marker::Model;
@@ -53,7 +53,7 @@ impl Order {
     /// The number of the step at which a call takes effect. Calls are numbered from 1, in the order
     /// of their begins. None for a call that is contended, open or not in the run.
     pub fn at(&self, call: usize) -> Option<u64>
-        ensures { result ≡ number_at self.now call }
+        ensures { result ≡ point_number_at self.now call }
     {
         match self.points.get(call.checked_sub(1)?)? {
             Point::At(number) => Some(*number),

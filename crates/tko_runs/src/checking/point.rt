@@ -2,9 +2,9 @@
 ghost use Rattle.std.specs.Prelude.{◌≡◌, ◌≢◌, ◌↔◌, List, ◌∷◌, true};
 ghost use Rattle.tko_model.specs.declared.mark.Reply.{Reply};
 ghost use Rattle.tko_model.specs.Settings.{Settings};
-ghost use Rattle.tko_runs.specs.Effects.{IsKept, IsEffect, Judges};
-ghost use Rattle.tko_runs.specs.Points.{HasReply, IsEffective, PointsCalls, IsSoFar};
-ghost use Rattle.tko_steps.specs.Runs.{Call, OwnStep};
+ghost use Rattle.tko_runs.specs.Effects.{IsCallKept, IsEffect, Judges};
+ghost use Rattle.tko_runs.specs.Points.{MayTakeEffect, IsEffective, PointsCalls, IsSoFar};
+ghost use Rattle.tko_steps.specs.Runs.{OwnStep, RunCall};
 
 use crate::Point;
 use crate::checking::effect::Effect;
@@ -31,7 +31,7 @@ enum PointSoFar {
 
 /// Where a call takes effect, if it is legal.
 pub(crate) fn point_of(call: &CheckedCall) -> Option<Point>
-    ensures { (s : Settings) → (of : Call) → IsKept s of call.now → Judges s of result }
+    ensures { (s : Settings) → (of : RunCall) → IsCallKept s of call.now → Judges s of result }
 {
     let mut so_far = PointSoFar::Quiet(None);
     for effect in &call.steps {
@@ -43,7 +43,7 @@ pub(crate) fn point_of(call: &CheckedCall) -> Option<Point>
 /// Whether a call with this answer can take effect at a step with this effect. An open call may
 /// still get any answer.
 fn is_effect(answer: Option<Reply>, effect: Option<Reply>) -> bool
-    ensures { (result ≡ true) ↔ HasReply answer effect }
+    ensures { (result ≡ true) ↔ MayTakeEffect answer effect }
 {
     match answer {
         Some(_) => effect == answer,
@@ -96,7 +96,7 @@ fn open(so_far: PointSoFar) -> Option<Point>
 impl PointSoFar {
     /// After one more step, which is newer.
     fn with(self, takes_effect: bool, effect: Effect) -> PointSoFar
-        ensures { (s : Settings) (of : Call) (own : OwnStep) (older : List OwnStep) →
+        ensures { (s : Settings) (of : RunCall) (own : OwnStep) (older : List OwnStep) →
             IsEffect s of own effect → ((takes_effect ≡ true) ↔ IsEffective s of own) →
             IsSoFar s of older self → IsSoFar s of (own ∷ older) result }
     {

@@ -2,28 +2,28 @@
 ghost use Rattle.std.specs.Prelude.{◌≡◌, ◌+◌, ◌<◌, ◌^◌, ◌↔◌, true, length, IfOk, IfErr, OnOk};
 ghost use Rattle.tko_model.specs.Ranges.{IsWithinRanges};
 ghost use Rattle.tko_runs.specs.Words.{room_at};
-ghost use Rattle.tko_runs.specs.States.{CanCome, HasCall, IsPlace, entry_at};
+ghost use Rattle.tko_runs.specs.States.{CanCome, HasCall, HasPlace, entry_at};
 ghost use Rattle.tko_runs.specs.Orders.{FollowsAt};
 ghost use Rattle.tko_steps.specs.Core.{word_at};
-ghost use Rattle.tko_runs.specs.CheckStates.{AreJudged, HasEntered, HasFollowed, IsCheckState, IsOpened, IsIllegalFault, IsRefusalFault, IsStrayFault};
+ghost use Rattle.tko_runs.specs.CheckStates.{AreJudged, HasEntered, HasFollowed, IsCheckState, IsCheckOpened, IsIllegalFault, IsRefusalFault, IsStrayFault};
 
-use crate::checking::calls::Calls;
+use crate::checking::calls::CheckedCalls;
 use crate::checking::effect::effect_of;
 use crate::checking::point::{CheckedCall, point_of};
-use crate::checking::words::{Room, can_leave};
-use crate::run::state::State;
+use crate::checking::words::{GroupRoom, can_leave};
+use crate::run::state::RunWords;
 use crate::{Event, Order, RunFault};
 use std::alloc::Global;
 use tko_bytes::NoMemory;
 use tko_model::{Reply, Settings};
-use tko_steps::{Kind, Place, Word};
+use tko_steps::{Place, StepKind, Word};
 
 /// The words and threads after some events of a run, and the calls that they began.
 #[derive(Drop)]
 pub(crate) struct CheckState {
     settings: Settings,
-    run: State,
-    calls: Calls,
+    run: RunWords,
+    calls: CheckedCalls,
     /// The number of steps of calls among these events.
     steps: u64,
 }
@@ -31,12 +31,12 @@ pub(crate) struct CheckState {
 impl CheckState {
     pub fn open(alloc: Global, settings: &Settings) -> Result<CheckState, NoMemory>
         requires { IsWithinRanges settings.now }
-        ensures { IfOk result (IsOpened settings.now) }
+        ensures { IfOk result (IsCheckOpened settings.now) }
     {
         Ok(CheckState {
             settings: settings.try_clone(alloc)?,
-            run: State::open(alloc, settings)?,
-            calls: Calls::open(alloc, settings.threads as usize)?,
+            run: RunWords::open(alloc, settings)?,
+            calls: CheckedCalls::open(alloc, settings.threads as usize)?,
             steps: 0,
         })
     }
@@ -80,7 +80,7 @@ impl CheckState {
     fn step(
         &mut self,
         thread: usize,
-        kind: Kind,
+        kind: StepKind,
         place: Place,
         found: Word,
         left: Word,
@@ -89,7 +89,7 @@ impl CheckState {
         requires state { IsCheckState self.old }
         requires thread { thread < length self.old.run.threads }
         requires call { HasCall (entry_at self.old.run thread) }
-        requires place { IsPlace self.old.run.words place }
+        requires place { HasPlace self.old.run.words place }
         requires room { self.old.steps + 1 < 2 ^ 64 }
         ensures ok { OnOk result
             (HasFollowed self.old thread kind place found left answer self.new) }
@@ -123,13 +123,13 @@ impl CheckState {
 /// Whether a step finds the word at its place, and leaves what its kind can leave.
 fn follows(
     settings: &Settings,
-    run: &State,
-    kind: Kind,
+    run: &RunWords,
+    kind: StepKind,
     place: Place,
     found: Word,
     left: Word,
 ) -> bool
-    requires place { IsPlace run.now.words place }
+    requires place { HasPlace run.now.words place }
     ensures { (result ≡ true) ↔ FollowsAt settings.now run.now kind place found left }
 {
     is_word(run, place, found)
@@ -137,7 +137,7 @@ fn follows(
 }
 
 /// The room of the group of a place.
-fn room_at(settings: &Settings, run: &State, place: Place) -> Room
+fn room_at(settings: &Settings, run: &RunWords, place: Place) -> GroupRoom
     ensures held { result.held ≡ (room_at settings.now run.now.words.slots place).held }
     ensures limit { result.limit ≡ (room_at settings.now run.now.words.slots place).limit }
 {
@@ -146,15 +146,15 @@ fn room_at(settings: &Settings, run: &State, place: Place) -> Room
         Place::Soft(group) => group,
         Place::Enrolment => 0,
     };
-    Room {
+    GroupRoom {
         held: run.slots(group).held,
         limit: settings.limit_of(group),
     }
 }
 
 /// Whether this is the word at that place.
-fn is_word(run: &State, place: Place, found: Word) -> bool
-    requires { IsPlace run.now.words place }
+fn is_word(run: &RunWords, place: Place, found: Word) -> bool
+    requires { HasPlace run.now.words place }
     ensures { (result ≡ true) ↔ (found ≡ word_at run.now.words place) }
 {
     found == run.word_at(place)

@@ -4,7 +4,7 @@ use crate::{Event, Run, RunFault, Schedule, check, play};
 use std::alloc::Global;
 use std::test::Fail;
 use tko_model::{Mark, OneGroup, Op, Reply, ServerState, WORN_STAMP};
-use tko_steps::{Kind, Place, Slots, Word};
+use tko_steps::{Place, Slots, StepKind, Word};
 
 /// Two soft failures, of which the second finds no room for a mark.
 const SECOND_IS_FULL: &[u8; 108] = b"schedule 1
@@ -63,7 +63,7 @@ fn fault_of(
 }
 
 /// A step of thread 1 on the second server.
-fn step(kind: Kind, found: ServerState, left: ServerState, answer: Option<Reply>) -> Event {
+fn step(kind: StepKind, found: ServerState, left: ServerState, answer: Option<Reply>) -> Event {
     Event::Step {
         thread: 1,
         kind,
@@ -79,7 +79,7 @@ fn state(mark: Mark, stamp: u64) -> ServerState {
 }
 
 /// A step of thread 1 on the soft word, which holds one settled mark.
-fn on_slots(kind: Kind, firm: u32, held: u32) -> Event {
+fn on_slots(kind: StepKind, firm: u32, held: u32) -> Event {
     Event::Step {
         thread: 1,
         kind,
@@ -109,7 +109,7 @@ fn changed_answer_is_refused(rt: HostRuntime) -> Result<(), Fail> {
         (Some(Reply::Contended), None),
         (Some(Reply::Counted(1)), Some(RunFault::Call(2))),
     ] {
-        let changed = fault_with(rt.alloc(), LAST, step(Kind::Look, up, up, answer))?;
+        let changed = fault_with(rt.alloc(), LAST, step(StepKind::Look, up, up, answer))?;
         assert_eq!(rt; changed, fault);
     }
     Ok(())
@@ -119,22 +119,52 @@ fn changed_answer_is_refused(rt: HostRuntime) -> Result<(), Fail> {
 fn words_of_servers_follow(rt: HostRuntime) -> Result<(), Fail> {
     let (up, full) = (state(Mark::Up(0), 0), Some(Reply::Full));
     for (kind, found, left, fault) in [
-        (Kind::Look, state(Mark::Up(0), 1), up, RunFault::Step(8)),
-        (Kind::Look, up, state(Mark::Up(0), 1), RunFault::Step(8)),
-        (Kind::Give, up, up, RunFault::Step(8)),
-        (Kind::Own, up, up, RunFault::Step(8)),
-        (Kind::Count, up, state(Mark::Up(1), 1), RunFault::Step(8)),
-        (Kind::Mark, up, state(Mark::Up(0), 1), RunFault::Step(8)),
-        (Kind::Mark, up, state(Mark::Hard(2), 1), RunFault::Step(8)),
-        (Kind::Mark, up, state(Mark::Hard(1), 2), RunFault::Step(8)),
-        (Kind::Mark, up, state(Mark::Soft(1), 1), RunFault::Step(8)),
-        (Kind::Count, up, state(Mark::Up(0), 1), RunFault::Call(2)),
-        (Kind::Mark, up, state(Mark::Hard(0), 1), RunFault::Call(2)),
+        (StepKind::Look, state(Mark::Up(0), 1), up, RunFault::Step(8)),
+        (StepKind::Look, up, state(Mark::Up(0), 1), RunFault::Step(8)),
+        (StepKind::Give, up, up, RunFault::Step(8)),
+        (StepKind::Own, up, up, RunFault::Step(8)),
+        (
+            StepKind::Count,
+            up,
+            state(Mark::Up(1), 1),
+            RunFault::Step(8),
+        ),
+        (StepKind::Mark, up, state(Mark::Up(0), 1), RunFault::Step(8)),
+        (
+            StepKind::Mark,
+            up,
+            state(Mark::Hard(2), 1),
+            RunFault::Step(8),
+        ),
+        (
+            StepKind::Mark,
+            up,
+            state(Mark::Hard(1), 2),
+            RunFault::Step(8),
+        ),
+        (
+            StepKind::Mark,
+            up,
+            state(Mark::Soft(1), 1),
+            RunFault::Step(8),
+        ),
+        (
+            StepKind::Count,
+            up,
+            state(Mark::Up(0), 1),
+            RunFault::Call(2),
+        ),
+        (
+            StepKind::Mark,
+            up,
+            state(Mark::Hard(0), 1),
+            RunFault::Call(2),
+        ),
     ] {
         let changed = fault_with(rt.alloc(), LAST, step(kind, found, left, full))?;
         assert_eq!(rt; changed, Some(fault));
     }
-    let lost = fault_with(rt.alloc(), LAST, step(Kind::Mark, up, up, full))?;
+    let lost = fault_with(rt.alloc(), LAST, step(StepKind::Mark, up, up, full))?;
     assert_eq!(rt; lost, None);
     Ok(())
 }
@@ -142,15 +172,15 @@ fn words_of_servers_follow(rt: HostRuntime) -> Result<(), Fail> {
 #[test]
 fn slots_follow(rt: HostRuntime) -> Result<(), Fail> {
     for (kind, firm, held, fault) in [
-        (Kind::Look, 1, 0, None),
-        (Kind::Look, 1, 1, Some(RunFault::Step(7))),
-        (Kind::Reserve, 1, 0, None),
-        (Kind::Reserve, 1, 1, Some(RunFault::Step(7))),
-        (Kind::Shift, 0, 1, None),
-        (Kind::Shift, 1, 0, Some(RunFault::Step(7))),
-        (Kind::Shift, 2, 0, Some(RunFault::Step(7))),
-        (Kind::Give, 1, 0, Some(RunFault::Step(7))),
-        (Kind::Mark, 1, 0, Some(RunFault::Step(7))),
+        (StepKind::Look, 1, 0, None),
+        (StepKind::Look, 1, 1, Some(RunFault::Step(7))),
+        (StepKind::Reserve, 1, 0, None),
+        (StepKind::Reserve, 1, 1, Some(RunFault::Step(7))),
+        (StepKind::Shift, 0, 1, None),
+        (StepKind::Shift, 1, 0, Some(RunFault::Step(7))),
+        (StepKind::Shift, 2, 0, Some(RunFault::Step(7))),
+        (StepKind::Give, 1, 0, Some(RunFault::Step(7))),
+        (StepKind::Mark, 1, 0, Some(RunFault::Step(7))),
     ] {
         let changed = fault_with(rt.alloc(), SLOTS, on_slots(kind, firm, held))?;
         assert_eq!(rt; changed, fault);
@@ -162,7 +192,7 @@ fn slots_follow(rt: HostRuntime) -> Result<(), Fail> {
 fn at_first(found: ServerState) -> Event {
     Event::Step {
         thread: 1,
-        kind: Kind::Look,
+        kind: StepKind::Look,
         place: Place::Server(0),
         found: Word::Server(found),
         left: Word::Server(found),
@@ -174,8 +204,8 @@ fn at_first(found: ServerState) -> Event {
 #[test]
 fn words_of_another_server_and_group_are_judged_alike(rt: HostRuntime) -> Result<(), Fail> {
     for (event, fault) in [
-        (on_slots(Kind::Look, 1, 0), None),
-        (on_slots(Kind::Give, 1, 0), Some(RunFault::Step(7))),
+        (on_slots(StepKind::Look, 1, 0), None),
+        (on_slots(StepKind::Give, 1, 0), Some(RunFault::Step(7))),
         (at_first(state(Mark::Soft(0), 1)), None),
         (at_first(state(Mark::Up(0), 0)), Some(RunFault::Step(7))),
     ] {
@@ -186,7 +216,7 @@ fn words_of_another_server_and_group_are_judged_alike(rt: HostRuntime) -> Result
 }
 
 /// A step of the only thread on the only server.
-fn alone(kind: Kind, found: ServerState, left: ServerState, answer: Option<Reply>) -> Event {
+fn alone(kind: StepKind, found: ServerState, left: ServerState, answer: Option<Reply>) -> Event {
     Event::Step {
         thread: 0,
         kind,
@@ -211,7 +241,7 @@ fn fault_at(alloc: Global, opened: ServerState, steps: &[Event]) -> Result<Optio
     let mut events = Vec::new(alloc);
     events.push(Event::Step {
         thread: 0,
-        kind: Kind::Enrol,
+        kind: StepKind::Enrol,
         place: Place::Enrolment,
         found: Word::Enrolled(0),
         left: Word::Enrolled(1),
@@ -222,7 +252,7 @@ fn fault_at(alloc: Global, opened: ServerState, steps: &[Event]) -> Result<Optio
         op: Op::HardFailure,
         server: 0,
     })?;
-    events.push(alone(Kind::Look, opened, opened, None))?;
+    events.push(alone(StepKind::Look, opened, opened, None))?;
     events.extend_from_slice(steps)?;
     let run = Run::of(alloc, settings.settings(alloc)?, events)?;
     Ok(check(alloc, &run).err())
@@ -236,16 +266,26 @@ fn worn_stamps_are_for_the_call_to_answer(rt: HostRuntime) -> Result<(), Fail> {
         state(Mark::Up(0), WORN_STAMP),
     );
     let above = state(Mark::Up(1), WORN_STAMP + 1);
-    let marks = alone(Kind::Mark, below, state(Mark::Hard(0), WORN_STAMP), took);
+    let marks = alone(
+        StepKind::Mark,
+        below,
+        state(Mark::Hard(0), WORN_STAMP),
+        took,
+    );
     assert_eq!(rt; fault_at(rt.alloc(), below, &[marks])?, None);
-    let marks = alone(Kind::Mark, worn, state(Mark::Hard(0), WORN_STAMP + 1), took);
+    let marks = alone(
+        StepKind::Mark,
+        worn,
+        state(Mark::Hard(0), WORN_STAMP + 1),
+        took,
+    );
     assert_eq!(rt;
         fault_at(rt.alloc(), worn, &[marks])?,
         Some(RunFault::Call(1))
     );
-    let counts = alone(Kind::Count, worn, above, None);
+    let counts = alone(StepKind::Count, worn, above, None);
     let marks = alone(
-        Kind::Mark,
+        StepKind::Mark,
         above,
         state(Mark::Hard(0), WORN_STAMP + 2),
         took,
@@ -254,7 +294,12 @@ fn worn_stamps_are_for_the_call_to_answer(rt: HostRuntime) -> Result<(), Fail> {
         fault_at(rt.alloc(), worn, &[counts, marks])?,
         Some(RunFault::Call(1))
     );
-    let skips = alone(Kind::Mark, worn, state(Mark::Hard(0), WORN_STAMP + 2), took);
+    let skips = alone(
+        StepKind::Mark,
+        worn,
+        state(Mark::Hard(0), WORN_STAMP + 2),
+        took,
+    );
     assert_eq!(rt;
         fault_at(rt.alloc(), worn, &[skips])?,
         Some(RunFault::Step(2))

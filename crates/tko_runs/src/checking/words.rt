@@ -1,15 +1,15 @@
 //! What a step of each kind can leave of the word that it finds, whoever takes it.
 ghost use Rattle.std.specs.Prelude.{◌≡◌, ◌↔◌, true};
-ghost use Rattle.tko_runs.specs.Words.{CanLeave, CanLeaveServer, CanLeaveSlots, CanMark, IsExchange, IsGiven, IsReserved, IsSettled, IsValid};
+ghost use Rattle.tko_runs.specs.Words.{CanLeave, CanLeaveServer, CanLeaveSlots, CanMark, IsReserved, IsSlotReleased, IsSlotSettled, IsValid, IsWonExchange};
 ghost use Rattle.tko_word.specs.Words.{IsMarkOf};
 
 use tko_model::{Mark, ServerState, Settings};
-use tko_steps::{Kind, Slots, Word};
+use tko_steps::{Slots, StepKind, Word};
 use tko_word::STAMP_END;
 
 /// What the group of a word has room for.
 #[derive(Clone, Copy)]
-pub(crate) struct Room {
+pub(crate) struct GroupRoom {
     /// How many of its slots are held.
     pub held: u32,
     /// How many marks and slots it may have.
@@ -19,8 +19,8 @@ pub(crate) struct Room {
 /// Whether a step of this kind can leave this of what it finds, where its group has this room.
 pub(crate) fn can_leave(
     settings: &Settings,
-    room: Room,
-    kind: Kind,
+    room: GroupRoom,
+    kind: StepKind,
     found: Word,
     left: Word,
 ) -> bool
@@ -37,7 +37,7 @@ pub(crate) fn can_leave(
             Word::Server(_) | Word::Enrolled(_) => false,
         },
         Word::Enrolled(found) => match left {
-            Word::Enrolled(left) => kind == Kind::Enrol && found.checked_add(1) == Some(left),
+            Word::Enrolled(left) => kind == StepKind::Enrol && found.checked_add(1) == Some(left),
             Word::Server(_) | Word::Soft(_) => false,
         },
     }
@@ -47,18 +47,18 @@ pub(crate) fn can_leave(
 fn can_leave_server(
     settings: &Settings,
     held: u32,
-    kind: Kind,
+    kind: StepKind,
     found: ServerState,
     left: ServerState,
 ) -> bool
     ensures { (result ≡ true) ↔ CanLeaveServer settings.now held kind found left }
 {
     match kind {
-        Kind::Look => is_same(left, found),
-        Kind::Count => is_same(left, found) || is_exchange(settings, held, kind, found, left),
-        Kind::Mark => is_same(left, found) || is_exchange(settings, held, kind, found, left),
-        Kind::Own => is_exchange(settings, held, kind, found, left),
-        Kind::Reserve | Kind::Shift | Kind::Give | Kind::Enrol => false,
+        StepKind::Look => is_same(left, found),
+        StepKind::Count => is_same(left, found) || is_exchange(settings, held, kind, found, left),
+        StepKind::Mark => is_same(left, found) || is_exchange(settings, held, kind, found, left),
+        StepKind::Own => is_exchange(settings, held, kind, found, left),
+        StepKind::Reserve | StepKind::Shift | StepKind::Give | StepKind::Enrol => false,
     }
 }
 
@@ -66,11 +66,11 @@ fn can_leave_server(
 fn is_exchange(
     settings: &Settings,
     held: u32,
-    kind: Kind,
+    kind: StepKind,
     found: ServerState,
     left: ServerState,
 ) -> bool
-    ensures { (result ≡ true) ↔ IsExchange settings.now held kind found left }
+    ensures { (result ≡ true) ↔ IsWonExchange settings.now held kind found left }
 {
     can_mark(settings, held, kind, found.mark, left.mark)
         && found.stamp.checked_add(1) == Some(left.stamp)
@@ -78,22 +78,22 @@ fn is_exchange(
 }
 
 /// Whether an exchange of this kind can leave this mark in place of that one.
-fn can_mark(settings: &Settings, held: u32, kind: Kind, old: Mark, new: Mark) -> bool
+fn can_mark(settings: &Settings, held: u32, kind: StepKind, old: Mark, new: Mark) -> bool
     ensures { (result ≡ true) ↔ CanMark settings.now held kind old new }
 {
     match old {
         Mark::Up(_) => match new {
-            Mark::Up(_) => kind == Kind::Count,
-            Mark::Soft(thread) => kind == Kind::Mark && thread < settings.threads && held > 0,
-            Mark::Hard(thread) => kind == Kind::Mark && thread < settings.threads,
+            Mark::Up(_) => kind == StepKind::Count,
+            Mark::Soft(thread) => kind == StepKind::Mark && thread < settings.threads && held > 0,
+            Mark::Hard(thread) => kind == StepKind::Mark && thread < settings.threads,
         },
         Mark::Soft(owner) => match new {
-            Mark::Up(count) => kind == Kind::Own && count == 0,
+            Mark::Up(count) => kind == StepKind::Own && count == 0,
             Mark::Soft(_) => false,
-            Mark::Hard(thread) => kind == Kind::Own && thread == owner,
+            Mark::Hard(thread) => kind == StepKind::Own && thread == owner,
         },
         Mark::Hard(_) => match new {
-            Mark::Up(count) => kind == Kind::Own && count == 0,
+            Mark::Up(count) => kind == StepKind::Own && count == 0,
             Mark::Soft(_) | Mark::Hard(_) => false,
         },
     }
@@ -117,15 +117,15 @@ fn is_mark_of(settings: &Settings, mark: Mark) -> bool
     }
 }
 
-fn can_leave_slots(limit: u32, kind: Kind, found: Slots, left: Slots) -> bool
+fn can_leave_slots(limit: u32, kind: StepKind, found: Slots, left: Slots) -> bool
     ensures { (result ≡ true) ↔ CanLeaveSlots limit kind found left }
 {
     match kind {
-        Kind::Look => left == found,
-        Kind::Reserve => left == found || is_reserved(limit, found, left),
-        Kind::Shift => is_settled(found, left) || is_settled(left, found),
-        Kind::Give => is_given(found, left),
-        Kind::Count | Kind::Mark | Kind::Own | Kind::Enrol => false,
+        StepKind::Look => left == found,
+        StepKind::Reserve => left == found || is_reserved(limit, found, left),
+        StepKind::Shift => is_settled(found, left) || is_settled(left, found),
+        StepKind::Give => is_given(found, left),
+        StepKind::Count | StepKind::Mark | StepKind::Own | StepKind::Enrol => false,
     }
 }
 
@@ -140,14 +140,14 @@ fn is_reserved(limit: u32, found: Slots, left: Slots) -> bool
 
 /// Whether a held slot became a settled mark.
 fn is_settled(found: Slots, left: Slots) -> bool
-    ensures { (result ≡ true) ↔ IsSettled found left }
+    ensures { (result ≡ true) ↔ IsSlotSettled found left }
 {
     found.firm.checked_add(1) == Some(left.firm) && left.held.checked_add(1) == Some(found.held)
 }
 
 /// Whether one slot fewer is held.
 fn is_given(found: Slots, left: Slots) -> bool
-    ensures { (result ≡ true) ↔ IsGiven found left }
+    ensures { (result ≡ true) ↔ IsSlotReleased found left }
 {
     left.firm == found.firm && left.held.checked_add(1) == Some(found.held)
 }

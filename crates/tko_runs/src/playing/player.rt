@@ -2,7 +2,7 @@
 ghost use Rattle.std.specs.Prelude.{◌≡◌, IfOk, OnOk, replicate};
 ghost use Rattle.tko_model.specs.Ranges.{IsWithinRanges};
 ghost use Rattle.tko_runs.specs.States.{IsRunData};
-ghost use Rattle.tko_runs.specs.Plays.{after_all, after_command, after_turn, enrolled, run_data_of, with_event, with_skips};
+ghost use Rattle.tko_runs.specs.Plays.{after_all_turns, after_command, after_turn, enrolled, run_data_of, with_event, with_skips};
 ghost use Rattle.tko_steps.specs.Runs.{Begin, Step};
 
 use crate::run::SkippedTurns;
@@ -90,7 +90,8 @@ impl Player {
     /// So many steps of a thread. Once a step does nothing, neither does any later one, and one
     /// entry with a count stands for them all.
     fn steps(&mut self, thread: usize, steps: u64) -> Result<(), NoMemory>
-        ensures { OnOk result (self.new ≡ after_all self.old (replicate steps (Step thread))) }
+        ensures { OnOk result (self.new
+            ≡ after_all_turns self.old (replicate steps (Step thread))) }
     {
         for done in 0..steps {
             match self.core.step(thread) {

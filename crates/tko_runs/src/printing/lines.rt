@@ -2,13 +2,13 @@
 ghost use Rattle.std.specs.Prelude.{◌≡◌, ◌++◌, OnOk};
 ghost use Rattle.tko_runs.specs.States.{same_word};
 ghost use Rattle.tko_steps.specs.Table.{same_server};
-ghost use Rattle.tko_runs.specs.Prints.{answer_text, begin_text, event_text, kind_text, line, outcome_text, place_text, refusal_text, skipped_text, step_text, won_text};
+ghost use Rattle.tko_runs.specs.Prints.{answer_text, begin_text, event_text, kind_text, line, place_text, refusal_text, skipped_text, step_outcome_text, step_text, won_text};
 
 use crate::printing::words::{append_group, append_word};
 use crate::{Event, SkippedTurn, Version};
 use tko_bytes::NoMemory;
 use tko_model::{Op, Reply, ServerState, append_number, append_reply, op_word};
-use tko_steps::{BeginFault, Kind, Place, Word};
+use tko_steps::{BeginFault, Place, StepKind, Word};
 
 /// An event, which has that number if it is a step of a call. Enrolments aren't printed.
 pub(crate) fn append_event(
@@ -57,7 +57,7 @@ fn append_step(
     version: Version,
     number: u64,
     thread: usize,
-    kind: Kind,
+    kind: StepKind,
     place: Place,
 ) -> Result<(), NoMemory>
     ensures { OnOk result (out.new.items ≡
@@ -70,18 +70,18 @@ fn append_step(
     Ok(out.extend_from_slice(b" ")?)
 }
 
-fn kind_word(kind: Kind) -> &'static [u8]
+fn kind_word(kind: StepKind) -> &'static [u8]
     ensures { result.now ≡ kind_text kind }
 {
     match kind {
-        Kind::Look => b" look ",
-        Kind::Count => b" count ",
-        Kind::Mark => b" mark ",
-        Kind::Own => b" own ",
-        Kind::Reserve => b" reserve ",
-        Kind::Shift => b" shift ",
-        Kind::Give => b" give ",
-        Kind::Enrol => b" enrol ",
+        StepKind::Look => b" look ",
+        StepKind::Count => b" count ",
+        StepKind::Mark => b" mark ",
+        StepKind::Own => b" own ",
+        StepKind::Reserve => b" reserve ",
+        StepKind::Shift => b" shift ",
+        StepKind::Give => b" give ",
+        StepKind::Enrol => b" enrol ",
     }
 }
 
@@ -96,15 +96,21 @@ fn append_place(out: &mut Vec<u8>, version: Version, place: Place) -> Result<(),
 }
 
 /// The end of a step's line: what a look found, whether an exchange was won, else `done`.
-fn append_outcome(out: &mut Vec<u8>, kind: Kind, found: Word, left: Word) -> Result<(), NoMemory>
-    ensures { OnOk result (out.new.items ≡ out.old.items ++ line (outcome_text kind found left)) }
+fn append_outcome(
+    out: &mut Vec<u8>,
+    kind: StepKind,
+    found: Word,
+    left: Word,
+) -> Result<(), NoMemory>
+    ensures { OnOk result (out.new.items ≡ out.old.items
+        ++ line (step_outcome_text kind found left)) }
 {
     match kind {
-        Kind::Look => append_word(out, found)?,
-        Kind::Count | Kind::Mark | Kind::Own | Kind::Reserve => {
+        StepKind::Look => append_word(out, found)?,
+        StepKind::Count | StepKind::Mark | StepKind::Own | StepKind::Reserve => {
             out.extend_from_slice(won_word(found, left))?;
         }
-        Kind::Shift | Kind::Give | Kind::Enrol => out.extend_from_slice(b"done")?,
+        StepKind::Shift | StepKind::Give | StepKind::Enrol => out.extend_from_slice(b"done")?,
     }
     Ok(out.extend_from_slice(b"\n")?)
 }

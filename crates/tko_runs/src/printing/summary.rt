@@ -1,6 +1,6 @@
 //! The summary at the end of a run's text: its calls, and the words as it leaves them.
 ghost use Rattle.std.specs.Prelude.{◌≡◌, ◌++◌, [], ◌∷◌, OnOk};
-ghost use Rattle.tko_runs.specs.Prints.{line, order_text, point_text, servers_text, soft_words_text};
+ghost use Rattle.tko_runs.specs.Prints.{line, order_text, point_text, run_servers_text, soft_words_text};
 
 use crate::printing::words::{append_group, append_slots, append_state};
 use crate::{Point, Version};
@@ -38,7 +38,7 @@ fn append_point(out: &mut Vec<u8>, point: Point) -> Result<(), NoMemory>
 }
 
 pub(crate) fn append_servers(out: &mut Vec<u8>, servers: &[ServerState]) -> Result<(), NoMemory>
-    ensures { OnOk result (out.new.items ≡ out.old.items ++ servers_text 0 servers.now) }
+    ensures { OnOk result (out.new.items ≡ out.old.items ++ run_servers_text 0 servers.now) }
 {
     for (place, server) in servers.iter().enumerate() {
         append_server(out, place, *server)?;
@@ -47,7 +47,7 @@ pub(crate) fn append_servers(out: &mut Vec<u8>, servers: &[ServerState]) -> Resu
 }
 
 fn append_server(out: &mut Vec<u8>, place: usize, server: ServerState) -> Result<(), NoMemory>
-    ensures { OnOk result (out.new.items ≡ out.old.items ++ servers_text place (server ∷ [])) }
+    ensures { OnOk result (out.new.items ≡ out.old.items ++ run_servers_text place (server ∷ [])) }
 {
     append_number(out, b"server ", place as u64)?;
     out.extend_from_slice(b" ")?;

@@ -3,7 +3,7 @@ ghost use Rattle.std.specs.Prelude.{◌≡◌, [], IfOk, IfErr};
 ghost use Rattle.tko_runs.specs.States.{IsClaimFault};
 ghost use Rattle.tko_runs.specs.Versions.{version_of};
 
-use crate::run::state::State;
+use crate::run::state::RunWords;
 use crate::{Event, Run, Version};
 use std::alloc::Global;
 use thiserror::Error;
@@ -51,7 +51,7 @@ impl Run {
         if let Err(outside) = settings.check() {
             return Err(ClaimFault::Settings(outside));
         }
-        let mut state = State::open(alloc, &settings)?;
+        let mut state = RunWords::open(alloc, &settings)?;
         for (place, event) in events.iter().enumerate() {
             if !state.admits(event) {
                 return Err(ClaimFault::Event(place + 1));

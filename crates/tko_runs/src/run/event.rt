@@ -1,7 +1,7 @@
 //! Events of a run, and turns that were skipped.
 
 use tko_model::{Op, Reply};
-use tko_steps::{BeginFault, Kind, Place, Word};
+use tko_steps::{BeginFault, Place, StepKind, Word};
 
 /// What happened at one moment of a run.
 #[derive(Clone, Copy, Debug, PartialEq, Eq)]
@@ -15,7 +15,7 @@ pub enum Event {
     /// A thread took a step.
     Step {
         thread: usize,
-        kind: Kind,
+        kind: StepKind,
         place: Place,
         /// The word that the step found.
         found: Word,

@@ -4,7 +4,7 @@
 //! the words are at the end.
 ghost use Rattle.std.specs.Prelude.{◌≡◌, ◌↔◌, ◌<◌, ◌+◌, None, true, length, IfOk};
 ghost use Rattle.tko_steps.specs.Core.{slots_at};
-ghost use Rattle.tko_runs.specs.States.{CanCome, HasCall, IsEnrolment, IsIdle, IsPlace, entry_at, number_of, opened_state, state_after, with_answer, with_begin, with_enrolment, with_word};
+ghost use Rattle.tko_runs.specs.States.{CanCome, HasCall, HasPlace, IsEnrolment, IsThreadIdle, entry_at, entry_number, opened_state, state_after, state_with_word, with_answer, with_begin, with_enrolment};
 ghost use Rattle.tko_steps.specs.Core.{is_call_step, word_at};
 
 use crate::Event;
@@ -27,14 +27,14 @@ const NO_SLOTS: Slots = Slots { firm: 0, held: 0 };
 
 /// The words, and the table of the threads. Contracts see a `RunState`.
 #[derive(Drop)]
-pub(crate) struct State {
+pub(crate) struct RunWords {
     servers: Vec<ServerState>,
     slots: Vec<Slots>,
     enrolled: u32,
     threads: Vec<ThreadEntry>,
 }
 
-impl Model for State {
+impl Model for RunWords {
     ghost use Rattle.tko_runs.specs.States.{RunState};
 
     ghost Value = { RunState };
@@ -49,11 +49,11 @@ impl Model for State {
     } };
 }
 
-impl State {
-    pub fn open(alloc: Global, settings: &Settings) -> Result<State, NoMemory>
+impl RunWords {
+    pub fn open(alloc: Global, settings: &Settings) -> Result<RunWords, NoMemory>
         ensures { IfOk result (λ state. state ≡ opened_state settings.now) }
     {
-        Ok(State {
+        Ok(RunWords {
             servers: opened_servers(alloc, settings)?,
             slots: vec![in alloc; NO_SLOTS; settings.groups()]?,
             enrolled: 0,
@@ -88,7 +88,7 @@ impl State {
 
     /// What the word at a place holds.
     pub fn word_at(&self, place: Place) -> Word
-        requires { IsPlace self.now.words place }
+        requires { HasPlace self.now.words place }
         ensures { result ≡ word_at self.now.words place }
     {
         match place {
@@ -101,7 +101,7 @@ impl State {
     /// The number that a thread drew.
     pub fn number(&self, thread: usize) -> u32
         requires { thread < length self.now.threads }
-        ensures { result ≡ number_of (entry_at self.now thread) }
+        ensures { result ≡ entry_number (entry_at self.now thread) }
     {
         match self.threads[thread] {
             ThreadEntry::NotEnrolled => 0,
@@ -137,7 +137,7 @@ impl State {
     /// Whether there is such a thread and it is idle.
     fn is_idle(&self, thread: usize) -> bool
         ensures { (result ≡ true) ↔
-            (thread < length self.now.threads) × IsIdle (entry_at self.now thread) }
+            (thread < length self.now.threads) × IsThreadIdle (entry_at self.now thread) }
     {
         thread < self.threads.len() && matches!(self.threads[thread], ThreadEntry::Idle { .. })
     }
@@ -161,7 +161,7 @@ impl State {
 
     /// Whether there is such a place.
     fn is_place(&self, place: Place) -> bool
-        ensures { (result ≡ true) ↔ IsPlace self.now.words place }
+        ensures { (result ≡ true) ↔ HasPlace self.now.words place }
     {
         match place {
             Place::Server(server) => server < self.servers.len(),
@@ -240,8 +240,8 @@ impl State {
 
     /// Writes the word that a step left.
     fn write(&mut self, place: Place, left: Word)
-        requires { IsPlace self.old.words place }
-        ensures { self.new ≡ with_word self.old place left }
+        requires { HasPlace self.old.words place }
+        ensures { self.new ≡ state_with_word self.old place left }
     {
         match place {
             Place::Server(server) => match left {

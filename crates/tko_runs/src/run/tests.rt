@@ -4,7 +4,7 @@ use crate::{ClaimFault, Event, Run, Version};
 use std::alloc::Global;
 use std::test::Fail;
 use tko_model::{Mark, OneGroup, Op, Reply, ServerState, Settings, SettingsFault};
-use tko_steps::{Kind, Place, Word};
+use tko_steps::{Place, StepKind, Word};
 
 const TWO_OF_EACH: OneGroup = OneGroup {
     servers: 2,
@@ -18,7 +18,7 @@ const TWO_OF_EACH: OneGroup = OneGroup {
 fn enrolment(thread: usize, found: u32, left: u32) -> Event {
     Event::Step {
         thread,
-        kind: Kind::Enrol,
+        kind: StepKind::Enrol,
         place: Place::Enrolment,
         found: Word::Enrolled(found),
         left: Word::Enrolled(left),
@@ -42,7 +42,7 @@ fn look(thread: usize, server: usize) -> Event {
     });
     Event::Step {
         thread,
-        kind: Kind::Look,
+        kind: StepKind::Look,
         place: Place::Server(server),
         found: word,
         left: word,

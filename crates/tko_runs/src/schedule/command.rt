@@ -1,6 +1,6 @@
 //! The lines of a schedule after its header: what its threads do.
 ghost use Rattle.std.specs.Prelude.{◌≡◌};
-ghost use Rattle.tko_runs.specs.Schedules.{begin_of, command_line, op_of, run_of, step_of, steps_of};
+ghost use Rattle.tko_runs.specs.Schedules.{begin_of, command_line, op_named, run_of, step_command, steps_of};
 
 use tko_bytes::{Fields, number};
 use tko_model::{Op, op_word};
@@ -64,7 +64,7 @@ fn begin(mut fields: Fields) -> Option<Command>
 
 /// `step <thread> <n>`, after its first word.
 fn step(mut fields: Fields) -> Option<Command>
-    ensures { result ≡ step_of fields.entry }
+    ensures { result ≡ step_command fields.entry }
 {
     let (thread, steps) = (fields.next()?, fields.next()?);
     if fields.next().is_some() {
@@ -90,7 +90,7 @@ fn run(mut fields: Fields) -> Option<Command>
 }
 
 fn op_of(word: &[u8]) -> Option<Op>
-    ensures { result ≡ op_of word.now }
+    ensures { result ≡ op_named word.now }
 {
     if word == op_word(Op::LookUp) {
         Some(Op::LookUp)

@@ -1,7 +1,7 @@
 //! The header of a schedule: the lines that give its version and its settings.
 ghost use Rattle.std.specs.Prelude.{◌≡◌, ◌-◌, Ok, drop, IfOk, IfErr};
 ghost use Rattle.tko_bytes.specs.Lines.{lines_of};
-ghost use Rattle.tko_runs.specs.Schedules.{IsFault, counts_in, groups_in, header, one_group_in, settings_in, with_groups};
+ghost use Rattle.tko_runs.specs.Schedules.{IsFault, counts_in, header, one_group_in, settings_in, several_groups_in, with_groups};
 ghost use Rattle.tko_runs.specs.Versions.{header_lines};
 
 mod lines;
@@ -13,13 +13,13 @@ use tko_model::{OneGroup, Settings};
 
 /// The settings that each version has in the same lines.
 #[derive(Clone, Copy)]
-pub(crate) struct Counts {
+pub(crate) struct HeaderSettings {
     pub servers: u32,
     pub threads: u32,
     pub failures: u32,
 }
 
-impl Counts {
+impl HeaderSettings {
     /// The settings with these groups.
     fn with_groups(
         self,
@@ -61,7 +61,7 @@ pub(crate) fn read_header(
 }
 
 /// The second line to the fourth.
-fn read_counts(text: &[u8]) -> Result<(Counts, &[u8]), ScheduleFault>
+fn read_counts(text: &[u8]) -> Result<(HeaderSettings, &[u8]), ScheduleFault>
     ensures ok { IfOk result (λ read. counts_in (lines_of text.now) ≡ Ok read.0) }
     ensures rest { IfOk result (λ read. lines_of read.1.now ≡ drop 3 (lines_of text.now)) }
     ensures err { IfErr result (λ fault. IsFault (counts_in (lines_of text.now)) fault) }
@@ -69,7 +69,7 @@ fn read_counts(text: &[u8]) -> Result<(Counts, &[u8]), ScheduleFault>
     let (servers, rest) = header_number(2, b"servers", text)?;
     let (threads, rest) = header_number(3, b"threads", rest)?;
     let (failures, rest) = header_number(4, b"failures", rest)?;
-    let counts = Counts {
+    let counts = HeaderSettings {
         servers: in_field(servers),
         threads: in_field(threads),
         failures: in_field(failures),
@@ -81,7 +81,7 @@ fn read_counts(text: &[u8]) -> Result<(Counts, &[u8]), ScheduleFault>
 fn read_settings<'a>(
     alloc: Global,
     version: Version,
-    counts: Counts,
+    counts: HeaderSettings,
     text: &'a [u8],
 ) -> Result<(Settings, &'a [u8]), ScheduleFault>
     ensures ok { IfOk result (λ read. settings_in version counts (lines_of text.now) ≡ Ok read.0) }
@@ -100,7 +100,7 @@ fn read_settings<'a>(
 /// The lines of the first version.
 fn read_one_group<'a>(
     alloc: Global,
-    counts: Counts,
+    counts: HeaderSettings,
     text: &'a [u8],
 ) -> Result<(Settings, &'a [u8]), ScheduleFault>
     ensures ok { IfOk result (λ read. one_group_in counts (lines_of text.now) ≡ Ok read.0) }
@@ -125,12 +125,13 @@ fn read_one_group<'a>(
 /// Those of the other versions.
 fn read_groups<'a>(
     alloc: Global,
-    counts: Counts,
+    counts: HeaderSettings,
     text: &'a [u8],
 ) -> Result<(Settings, &'a [u8]), ScheduleFault>
-    ensures ok { IfOk result (λ read. groups_in counts (lines_of text.now) ≡ Ok read.0) }
+    ensures ok { IfOk result (λ read. several_groups_in counts (lines_of text.now) ≡ Ok read.0) }
     ensures rest { IfOk result (λ read. lines_of read.1.now ≡ drop 4 (lines_of text.now)) }
-    ensures err { IfErr result (λ fault. IsFault (groups_in counts (lines_of text.now)) fault) }
+    ensures err { IfErr result (λ fault.
+        IsFault (several_groups_in counts (lines_of text.now)) fault) }
 {
     let (limits, rest) = header_list(alloc, 5, b"limits", text)?;
     let (groups, rest) = header_list(alloc, 6, b"groups", rest)?;

@@ -3,7 +3,7 @@ ghost use Rattle.std.specs.Prelude.{◌≡◌};
 ghost use Rattle.tko_session.specs.Awaiting.{awaited_in};
 ghost use Rattle.tko_session.specs.Working.{attempts_in};
 
-use super::{AtWork, KeyAtWork, KeyWait, Session};
+use super::{KeyAtWork, KeyWait, Session, SessionWork};
 use tko_route::Attempt;
 
 impl Session {
@@ -12,7 +12,7 @@ impl Session {
         ensures { result ≡ awaited_in self.now.work }
     {
         match &self.work {
-            AtWork::Key(
+            SessionWork::Key(
                 KeyAtWork {
                     key: _,
                     wait: KeyWait::Sent(waiting),
@@ -27,7 +27,7 @@ impl Session {
         ensures { result.now ≡ attempts_in self.now.work }
     {
         match &self.work {
-            AtWork::Key(
+            SessionWork::Key(
                 KeyAtWork {
                     key: _,
                     wait: KeyWait::Sent(waiting),

@@ -3,10 +3,10 @@
 ghost use Rattle.std.specs.Prelude.{◌≡◌, ◌↔◌, IfNone, IfSome, IsTrue, OnErr, OnOk};
 ghost use Rattle.tko_pools.specs.Configs.{Configuration};
 ghost use Rattle.tko_keys.specs.KeysState.{reply_in};
-ghost use Rattle.tko_session.specs.Driven.{IsReady, dropped};
+ghost use Rattle.tko_session.specs.Driven.{IsSessionReady, dropped};
 ghost use Rattle.tko_session.specs.Handing.{HandsNone, HandsOver, IsForSeveral, IsHanded, replied_by};
 
-use super::{AtWork, KeyAtWork, KeyWait, Session};
+use super::{KeyAtWork, KeyWait, Session, SessionWork};
 use crate::step::Progress;
 use std::mem::replace;
 use tko_bytes::NoMemory;
@@ -20,13 +20,13 @@ impl Session {
     pub fn hand_over(&mut self) -> Option<Request>
         ensures some { IfSome result (λ request. HandsOver self.old request self.new) }
         ensures none { IfNone result (HandsNone self.old self.new) }
-        ensures ready { (config : Configuration) → IsReady config self.old
-            → IsReady config self.new }
+        ensures ready { (config : Configuration) → IsSessionReady config self.old
+            → IsSessionReady config self.new }
     {
         if !self.is_for_several() {
             return None;
         }
-        let AtWork::Key(at) = replace(&mut self.work, AtWork::HandedOver) else {
+        let SessionWork::Key(at) = replace(&mut self.work, SessionWork::HandedOver) else {
             unreachable!();
         };
         Some(at.key.into_request())
@@ -37,7 +37,7 @@ impl Session {
         ensures { IsTrue result ↔ IsForSeveral self.now.work }
     {
         match &self.work {
-            AtWork::Key(
+            SessionWork::Key(
                 KeyAtWork {
                     key,
                     wait: KeyWait::Read,

@@ -3,11 +3,11 @@ ghost use Rattle.std.specs.Prelude.{◌≡◌, ◌++◌, IfNone, IfOk, IfSome, O
 ghost use Rattle.tko_text.specs.Reading.{Emits, NeedsMore};
 ghost use Rattle.tko_text.specs.Requests.{fault_text};
 ghost use Rattle.tko_reply.specs.Standing.{whole_of};
-ghost use Rattle.tko_session.specs.Driven.{ItemDropped, ItemRead, begun_at};
+ghost use Rattle.tko_session.specs.Driven.{ItemDropped, ItemRead, with_request_read};
 ghost use Rattle.tko_session.specs.Working.{Between};
 ghost use Rattle.tko_session.specs.SessionState.{progress_after};
 
-use super::{AtWork, KeyAtWork, KeyWait, Session};
+use super::{KeyAtWork, KeyWait, Session, SessionWork};
 use crate::step::{Progress, Step};
 use tko_bytes::NoMemory;
 use tko_reply::OneKey;
@@ -51,13 +51,13 @@ impl Session {
     /// Keeps a request that was read. From here on its round is owed.
     fn take_request(&mut self, request: Request) -> Step
         ensures step { result ≡ Step.Began }
-        ensures state { self.new ≡ begun_at (whole_of request) self.old }
+        ensures state { self.new ≡ with_request_read (whole_of request) self.old }
     {
         self.owes = true;
         self.begin = self.outbox.len();
         let key = OneKey::whole(request);
         let wait = KeyWait::Read;
-        self.work = AtWork::Key(KeyAtWork { key, wait });
+        self.work = SessionWork::Key(KeyAtWork { key, wait });
         Step::Began
     }
 }

@@ -2,11 +2,11 @@
 ghost use Rattle.std.specs.Prelude.{◌≡◌, IfErr, IfOk, IsSome, Some, length};
 ghost use Rattle.tko_route.specs.Routing.{GoesOn};
 ghost use Rattle.tko_reply.specs.declared.asking.OneKey.{OneKey};
-ghost use Rattle.tko_session.specs.Driven.{IsReady, WasDropped, WentOn, dropped, finished, step_of, went};
-ghost use Rattle.tko_session.specs.Working.{ended_in, key_in, key_work, read_in};
+ghost use Rattle.tko_session.specs.Driven.{IsSessionReady, WasDropped, WentOn, dropped, finished, step_of, went};
+ghost use Rattle.tko_session.specs.Working.{ended_in, key_in, key_work, request_read_in};
 ghost use Rattle.tko_session.specs.SessionState.{progress_of};
 
-use super::{AtWork, KeyAtWork, KeyWait, Session};
+use super::{KeyAtWork, KeyWait, Session, SessionWork};
 use crate::step::{Progress, Step};
 use std::alloc::Global;
 use std::sync::Wait;
@@ -26,15 +26,15 @@ impl Session {
         config: &Config,
     ) -> Result<Step, Dropped>
         requires servers { H.servers health.old ≡ length config.now.addresses }
-        requires ready { IsReady config.now self.old }
-        requires read { IsSome (read_in self.old.work) }
+        requires ready { IsSessionReady config.now self.old }
+        requires read { IsSome (request_read_in self.old.work) }
         ensures ok { IfOk result (λ step. GoesOn H.steps health.old
             (λ calls. WentOn config.now self.old calls step self.new) health.new) }
         ensures err { IfErr result (λ attempts. GoesOn H.steps health.old
             (λ calls. WasDropped config.now self.old calls attempts self.new) health.new) }
         ensures servers { H.servers health.new ≡ H.servers health.old }
     {
-        let AtWork::Key(KeyAtWork { key, wait: _ }) = &mut self.work else {
+        let SessionWork::Key(KeyAtWork { key, wait: _ }) = &mut self.work else {
             unreachable!();
         };
         let progress = progress_of(key.request());
@@ -61,7 +61,7 @@ impl Session {
         config: &Config,
     ) -> Result<Step, Dropped>
         requires servers { H.servers health.old ≡ length config.now.addresses }
-        requires ready { IsReady config.now self.old }
+        requires ready { IsSessionReady config.now self.old }
         requires tried { IsSome (ended_in self.old.work) }
         ensures ok { IfOk result (λ step. GoesOn H.steps health.old
             (λ calls. WentOn config.now self.old calls step self.new) health.new) }
@@ -69,7 +69,7 @@ impl Session {
             (λ calls. WasDropped config.now self.old calls attempts self.new) health.new) }
         ensures servers { H.servers health.new ≡ H.servers health.old }
     {
-        let AtWork::Key(KeyAtWork { key, wait: _ }) = &mut self.work else {
+        let SessionWork::Key(KeyAtWork { key, wait: _ }) = &mut self.work else {
             unreachable!();
         };
         let Ok(keyed) = key.go_on(&mut self.outbox) else {
@@ -110,7 +110,7 @@ impl Session {
         ensures { (one : OneKey) → key_in self.old.work ≡ Some one
             → self.new ≡ record self.old { work = key_work one wait } }
     {
-        if let AtWork::Key(at) = &mut self.work {
+        if let SessionWork::Key(at) = &mut self.work {
             at.wait = wait;
         }
     }
@@ -120,7 +120,7 @@ impl Session {
         ensures step { result ≡ Step.At progress }
         ensures finished { self.new ≡ finished self.old }
     {
-        self.work = AtWork::Between;
+        self.work = SessionWork::Between;
         self.requests = self.requests.saturating_add(1);
         Step::At(progress)
     }

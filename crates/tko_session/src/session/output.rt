@@ -3,10 +3,10 @@ ghost use Rattle.std.specs.Prelude.{◌≡◌, ◌≤◌, ◌↔◌, [], false, 
 ghost use Rattle.tko_pools.specs.Configs.{Configuration};
 ghost use Rattle.tko_reply.specs.Answering.{Extends};
 ghost use Rattle.tko_reply.specs.Replies.{reply_bound};
-ghost use Rattle.tko_session.specs.Driven.{IsReady};
+ghost use Rattle.tko_session.specs.Driven.{IsSessionReady};
 ghost use Rattle.tko_session.specs.Outgoing.{AreOutgoing, outgoing, sent_from};
 
-use super::{AtWork, Session};
+use super::{Session, SessionWork};
 use crate::step::Report;
 
 impl Session {
@@ -18,9 +18,9 @@ impl Session {
     {
         let front = self.outbox.front();
         match &self.work {
-            AtWork::Between => front,
-            AtWork::Key(_) => first_bytes(front, self.begin),
-            AtWork::HandedOver => first_bytes(front, self.begin),
+            SessionWork::Between => front,
+            SessionWork::Key(_) => first_bytes(front, self.begin),
+            SessionWork::HandedOver => first_bytes(front, self.begin),
         }
     }
 
@@ -30,9 +30,9 @@ impl Session {
     {
         let len = self.outbox.len();
         match &self.work {
-            AtWork::Between => len,
-            AtWork::Key(_) => self.begin.min(len),
-            AtWork::HandedOver => self.begin.min(len),
+            SessionWork::Between => len,
+            SessionWork::Key(_) => self.begin.min(len),
+            SessionWork::HandedOver => self.begin.min(len),
         }
     }
 
@@ -56,17 +56,17 @@ impl Session {
     pub fn sent(&mut self, count: usize)
         requires may { AreOutgoing self.old count }
         ensures sent { self.new ≡ sent_from self.old count }
-        ensures ready { (config : Configuration) → IsReady config self.old
-            → IsReady config self.new }
+        ensures ready { (config : Configuration) → IsSessionReady config self.old
+            → IsSessionReady config self.new }
     {
         self.outbox.drop_front(count);
         match &mut self.work {
-            AtWork::Between => {}
-            AtWork::Key(at) => {
+            SessionWork::Between => {}
+            SessionWork::Key(at) => {
                 at.key.shift(count);
                 self.begin = self.begin.saturating_sub(count);
             }
-            AtWork::HandedOver => self.begin = self.begin.saturating_sub(count),
+            SessionWork::HandedOver => self.begin = self.begin.saturating_sub(count),
         }
     }
 

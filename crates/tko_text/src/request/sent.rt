@@ -1,13 +1,13 @@
 //! The forms in which a request is sent to a server. None of them takes memory.
 ghost use Rattle.std.specs.Prelude.{◌≡◌};
-ghost use Rattle.tko_text.specs.SentRequests.{is_silent, replaced_expiry, with_replaced_expiry, without_noreply};
+ghost use Rattle.tko_text.specs.SentRequests.{asks_no_reply, replaced_expiry, with_replaced_expiry, without_noreply};
 
 use super::Request;
 
 impl Request {
     /// Whether it has `noreply`.
     pub fn is_silent(&self) -> bool
-        ensures { result ≡ is_silent self.now }
+        ensures { result ≡ asks_no_reply self.now }
     {
         match self {
             Request::Store { noreply, .. } => *noreply,

@@ -3,7 +3,7 @@ ghost use Rattle.std.specs.Prelude.{◌≡◌, ◌++◌, ◌∷◌, codes, lengt
 ghost use Rattle.std.specs.Fmt.{decimal, signed_decimal};
 ghost use Rattle.tko_bytes.specs.Lines.{crlf};
 ghost use Rattle.tko_bytes.specs.Words.{space};
-ghost use Rattle.tko_text.specs.Requests.{line_of, noreply_text, noreply_words, request_text, stored_pieces, stored_text};
+ghost use Rattle.tko_text.specs.Requests.{line_of_words, noreply_text, noreply_words, request_text, stored_pieces, stored_text};
 
 use super::{Entry, Request};
 use crate::{Key, Keys, NoMemory};
@@ -61,7 +61,8 @@ fn noreply_text<'a>(noreply: bool) -> &'a [u8]
 /// Puts a `get` or a `gets` at the end. One of a single key, as a server gets it, is put there at
 /// once.
 fn append_keys<'a>(word: &'a [u8], keys: &'a Keys, out: &mut Vec<u8>) -> Result<(), NoMemory>
-    ensures ok { OnOk result (out.new.items ≡ out.old.items ++ line_of (word.now ∷ keys.now)) }
+    ensures ok { OnOk result
+        (out.new.items ≡ out.old.items ++ line_of_words (word.now ∷ keys.now)) }
     ensures err { OnErr result (out.new.items ≡ out.old.items) }
 {
     if let [key] = keys.as_slice() {
@@ -78,7 +79,8 @@ fn append_keys<'a>(word: &'a [u8], keys: &'a Keys, out: &mut Vec<u8>) -> Result<
 /// The same, but that a part of it may be there at an `Err`.
 #[tactic(auto, using(crate::proofs::PrintLemmas::keys_line))]
 fn push_keys(word: &[u8], keys: &[Key], out: &mut Vec<u8>) -> Result<(), NoMemory>
-    ensures ok { OnOk result (out.new.items ≡ out.old.items ++ line_of (word.now ∷ keys.now)) }
+    ensures ok { OnOk result
+        (out.new.items ≡ out.old.items ++ line_of_words (word.now ∷ keys.now)) }
     ensures err { OnErr result (take (length out.old.items) out.new.items ≡ out.old.items) }
 {
     append(out, &[word])?;
@@ -91,7 +93,7 @@ fn push_keys(word: &[u8], keys: &[Key], out: &mut Vec<u8>) -> Result<(), NoMemor
 /// Puts a `delete` at the end.
 fn append_delete(key: &Key, noreply: bool, out: &mut Vec<u8>) -> Result<(), NoMemory>
     ensures ok { OnOk result (out.new.items ≡ out.old.items
-        ++ line_of (codes "delete" ∷ key.now ∷ noreply_words noreply)) }
+        ++ line_of_words (codes "delete" ∷ key.now ∷ noreply_words noreply)) }
     ensures err { OnErr result (out.new.items ≡ out.old.items) }
 {
     append(
@@ -109,7 +111,7 @@ fn append_counted<'a>(
     out: &mut Vec<u8>,
 ) -> Result<(), NoMemory>
     ensures ok { OnOk result (out.new.items ≡ out.old.items
-        ++ line_of (word.now ∷ key.now ∷ decimal amount ∷ noreply_words noreply)) }
+        ++ line_of_words (word.now ∷ key.now ∷ decimal amount ∷ noreply_words noreply)) }
     ensures err { OnErr result (out.new.items ≡ out.old.items) }
 {
     let mut digits = Buffer::new();
@@ -131,7 +133,8 @@ fn append_counted<'a>(
 /// Puts a `touch` at the end.
 fn append_touch(key: &Key, expiry: i64, noreply: bool, out: &mut Vec<u8>) -> Result<(), NoMemory>
     ensures ok { OnOk result (out.new.items ≡ out.old.items
-        ++ line_of (codes "touch" ∷ key.now ∷ signed_decimal expiry ∷ noreply_words noreply)) }
+        ++ line_of_words (codes "touch" ∷ key.now ∷ signed_decimal expiry
+        ∷ noreply_words noreply)) }
     ensures err { OnErr result (out.new.items ≡ out.old.items) }
 {
     let mut digits = Buffer::new();

@@ -1,6 +1,6 @@
 //! What a response carries.
 ghost use Rattle.std.specs.Prelude.{◌≡◌, ◌↔◌, ◌++◌, IfSome, IsTrue, OnErr, OnOk};
-ghost use Rattle.tko_text.specs.ResponseLines.{IsText};
+ghost use Rattle.tko_text.specs.ResponseLines.{IsLineText};
 ghost use Rattle.tko_text.specs.Responses.{value_text};
 
 use super::writer::{append_value, shared_text};
@@ -46,18 +46,18 @@ pub struct Text {
 
 impl Model for Text {
     ghost use Rattle.std.specs.Prelude.{List, ℕ};
-    ghost use Rattle.tko_text.specs.ResponseLines.{IsText};
+    ghost use Rattle.tko_text.specs.ResponseLines.{IsLineText};
 
     ghost Value = { List ℕ };
 
     ghost view = { λ t. t.bytes.items };
 
-    ghost invariant = { λ t. IsText t.bytes.items };
+    ghost invariant = { λ t. IsLineText t.bytes.items };
 }
 
 impl Text {
     pub fn new(bytes: Vec<u8>) -> Text
-        requires { IsText bytes.items }
+        requires { IsLineText bytes.items }
         ensures { result ≡ bytes.items }
     {
         Text { bytes }
@@ -65,21 +65,21 @@ impl Text {
 
     /// Whether there is no LF.
     pub fn fits(bytes: &[u8]) -> bool
-        ensures { IsTrue result ↔ IsText bytes.now }
+        ensures { IsTrue result ↔ IsLineText bytes.now }
     {
         memchr(b'\n', bytes).is_none()
     }
 
     pub fn as_bytes(&self) -> &[u8]
         ensures value { result.now ≡ self.now }
-        ensures text { IsText self.now }
+        ensures text { IsLineText self.now }
     {
         self.bytes.as_slice()
     }
 
     pub fn into_bytes(self) -> Vec<u8>
         ensures value { result.items ≡ self }
-        ensures text { IsText self }
+        ensures text { IsLineText self }
     {
         let Text { bytes } = self;
         bytes

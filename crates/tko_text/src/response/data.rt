@@ -12,12 +12,12 @@ pub(crate) const DATA_LIMIT: usize = 1_048_576;
 /// At most 1,048,576 bytes. Contracts see their list.
 #[derive(Debug, Drop)]
 pub struct Data {
-    held: Held,
+    held: HeldData,
 }
 
 /// Where the bytes are.
 #[derive(Debug, Drop)]
-enum Held {
+enum HeldData {
     Own(Vec<u8>),
     Part(Part),
 }
@@ -50,7 +50,7 @@ impl Data {
         requires { IsData bytes.items }
         ensures { result ≡ bytes.items }
     {
-        let held = Held::Own(bytes);
+        let held = HeldData::Own(bytes);
         Data { held }
     }
 
@@ -60,7 +60,7 @@ impl Data {
         requires few { IsData (take size (drop begin text)) }
         ensures { result ≡ take size (drop begin text) }
     {
-        let held = Held::Part(Part { text, begin, size });
+        let held = HeldData::Part(Part { text, begin, size });
         Data { held }
     }
 
@@ -76,8 +76,8 @@ impl Data {
         ensures data { IsData self.now }
     {
         match &self.held {
-            Held::Own(bytes) => bytes.as_slice(),
-            Held::Part(part) => &part.text.as_slice()[part.begin..part.begin + part.size],
+            HeldData::Own(bytes) => bytes.as_slice(),
+            HeldData::Part(part) => &part.text.as_slice()[part.begin..part.begin + part.size],
         }
     }
 
@@ -86,8 +86,8 @@ impl Data {
         ensures { IfSome result (λ part. part_bytes part.now ≡ self.now) }
     {
         match &self.held {
-            Held::Own(_) => None,
-            Held::Part(part) => Some(part),
+            HeldData::Own(_) => None,
+            HeldData::Part(part) => Some(part),
         }
     }
 }

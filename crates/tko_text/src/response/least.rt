@@ -1,9 +1,9 @@
 //! How long a response has to be at least.
-ghost use Rattle.tko_text.specs.ResponseKinds.{seen};
+ghost use Rattle.tko_text.specs.ResponseKinds.{kind_seen};
 ghost use Rattle.tko_text.specs.ResponseLengths.{IsLeastLength, IsLeastOf};
 ghost use Rattle.tko_text.specs.Responses.{Retrieval};
 
-use super::kind::{Expected, Kind, kind_of};
+use super::kind::{Expected, SentKind, kind_of};
 use super::line::split_line;
 use super::reader::value_head;
 use crate::{Key, Request};
@@ -24,11 +24,11 @@ pub(crate) fn least_len(request: &Request, bytes: &[u8]) -> usize
 }
 
 /// The same for a request of the kind.
-fn least_of(kind: Kind, bytes: &[u8]) -> usize
-    ensures { IsLeastOf (seen kind.entry) bytes.now result }
+fn least_of(kind: SentKind, bytes: &[u8]) -> usize
+    ensures { IsLeastOf (kind_seen kind.entry) bytes.now result }
 {
     match kind {
-        Kind::Retrieval { key, unique } => least_value(key, unique, bytes),
+        SentKind::Retrieval { key, unique } => least_value(key, unique, bytes),
         _ => 0,
     }
 }

@@ -5,7 +5,7 @@ ghost use Rattle.std.specs.Str.{bytes_eq};
 ghost use Rattle.tko_text.specs.ListingFaults.{IsError, IsErrorLine, IsNextText, IsOtherLine, ErrorFault, ListFault, NotAwaited, ReadsList};
 ghost use Rattle.tko_text.specs.ResponseFaults.{ReadsOf, value_line};
 ghost use Rattle.tko_text.specs.Places.{keys_at};
-ghost use Rattle.tko_text.specs.Responses.{IsAwaited, IsHead, Listing, is_among};
+ghost use Rattle.tko_text.specs.Responses.{IsHead, IsValueAwaited, Listing, is_among};
 
 use super::line::split_line;
 use super::place::ValuePlace;
@@ -15,7 +15,7 @@ use super::{Listed, ReadFault, Response};
 use crate::{Key, NoMemory};
 use bytes::Bytes;
 use std::alloc::Global;
-use tko_bytes::Words;
+use tko_bytes::SpacedWords;
 
 /// The response to a retrieval of several keys, and how many bytes it takes.
 pub(super) fn read_list(
@@ -165,10 +165,10 @@ fn awaited_head(
         (λ found. (found.0 < length keys.now)
         × IsHead (value_line arguments.now) (slice_index_or keys.now found.0 []) found.1.flags
         found.1.size found.1.unique
-        × IsAwaited keys.now unique (keys_at had.now) (slice_index_or keys.now found.0 [])
+        × IsValueAwaited keys.now unique (keys_at had.now) (slice_index_or keys.now found.0 [])
         found.1.unique) }
 {
-    let word = Words::of(arguments).next()?;
+    let word = SpacedWords::of(arguments).next()?;
     let index = key_index(keys, next, word)?;
     if had.has(word) {
         return None;

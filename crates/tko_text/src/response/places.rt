@@ -2,7 +2,7 @@
 ghost use Rattle.std.specs.Prelude.{◌≡◌, ◌≤◌, ◌<◌, ◌-◌, ◌++◌, [], ◌∷◌, All, IfOk, OnErr, OnOk, drop, length};
 ghost use Rattle.std.specs.List.{list_any};
 ghost use Rattle.std.specs.Str.{bytes_eq};
-ghost use Rattle.tko_text.specs.Marks.{AreSeen, mark, mark_step, marked};
+ghost use Rattle.tko_text.specs.Marks.{AreSeen, mark, mark_step, marked_bytes};
 
 use super::place::ValuePlace;
 use super::reader::Head;
@@ -99,7 +99,7 @@ fn mark_of(key: &[u8]) -> usize
 
 /// The bytes that a key's mark is made of.
 fn last_bytes(key: &[u8]) -> &[u8]
-    ensures { result.now ≡ drop (length key.now - marked) key.now }
+    ensures { result.now ≡ drop (length key.now - marked_bytes) key.now }
 {
     key.split_at(key.len().saturating_sub(MARKED)).1
 }

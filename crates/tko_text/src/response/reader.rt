@@ -1,13 +1,13 @@
 //! Reads a response, a function a form.
 ghost use Rattle.std.specs.Prelude.{◌≡◌, ◌≢◌, ℕ, ◌+◌, ◌≤◌, List, [], ◌∷◌, ◌++◌, Option, Some, None, drop, is_some, length, take, Err, IfOk, IfSome, OnErr, MatchOption, MatchResult};
-ghost use Rattle.tko_text.specs.ResponseLines.{IsData, IsText};
+ghost use Rattle.tko_text.specs.ResponseLines.{IsData, IsLineText};
 ghost use Rattle.tko_text.specs.ResponseFaults.{BodyFault, DataFault, EndFault, NoHead, Misses, ReadsOf, SplitsBody, SplitsEnd, line_response, value_line, version_response, word_response};
 ghost use Rattle.tko_text.specs.Heads.{IsPlaced, value_of};
-ghost use Rattle.tko_text.specs.ResponseKinds.{seen};
+ghost use Rattle.tko_text.specs.ResponseKinds.{kind_seen};
 ghost use Rattle.tko_text.specs.Responses.{IsCas, IsHead, ReadsResponse, Retrieval, block};
 
 use super::data::DATA_LIMIT;
-use super::kind::{Expected, Kind, kind_of, suits};
+use super::kind::{Expected, SentKind, kind_of, suits};
 use super::line::split_line;
 use super::list::{read_list, take_list};
 use super::{Data, ReadFault, Response, Text, Value};
@@ -16,7 +16,7 @@ use crate::{Key, NoMemory, Request};
 use bytes::Bytes;
 use std::alloc::Global;
 use std::mem::replace;
-use tko_bytes::{Words, number, split_word};
+use tko_bytes::{SpacedWords, number, split_word};
 
 /// What the first line of a value announces beside its key.
 #[derive(Clone, Copy, Debug)]
@@ -53,7 +53,7 @@ pub(crate) fn take(
     ensures err { OnErr result (bytes.new.items ≡ bytes.old.items) }
 {
     match kind_of(request) {
-        Some(Expected::Single(Kind::Retrieval { key, unique })) => {
+        Some(Expected::Single(SentKind::Retrieval { key, unique })) => {
             take_kind(alloc, key, unique, bytes)
         }
         Some(Expected::Listing { keys, unique }) => take_list(alloc, keys, unique, bytes),
@@ -62,8 +62,8 @@ pub(crate) fn take(
 }
 
 /// The response to a request of the kind.
-fn read_kind(alloc: Global, kind: Kind, bytes: &[u8]) -> Result<(Response, usize), ReadFault>
-    ensures reads { ReadsOf (seen kind.entry) bytes.now result }
+fn read_kind(alloc: Global, kind: SentKind, bytes: &[u8]) -> Result<(Response, usize), ReadFault>
+    ensures reads { ReadsOf (kind_seen kind.entry) bytes.now result }
     ensures within { IfOk result (λ found. found.1 ≤ length bytes.now) }
 {
     let (word, arguments, rest) = split_line(bytes)?;
@@ -85,7 +85,7 @@ pub(super) fn whole_line(
     word: &[u8],
     arguments: &[u8],
 ) -> Result<Response, ReadFault>
-    requires { IsText arguments.now }
+    requires { IsLineText arguments.now }
     ensures { MatchResult result
         (λ response. line_response (record { word = word.now; rest = arguments.now })
         ≡ Some response)
@@ -100,7 +100,7 @@ pub(super) fn whole_line(
     if word == b"VERSION".as_slice() {
         return version(alloc, arguments);
     }
-    match Words::of(arguments).next() {
+    match SpacedWords::of(arguments).next() {
         None => match word_response(word) {
             Some(response) => Ok(response),
             None => Err(ReadFault::Unreadable),
@@ -111,7 +111,7 @@ pub(super) fn whole_line(
 
 /// The version of this text, which has at least one byte.
 fn version(alloc: Global, arguments: &[u8]) -> Result<Response, ReadFault>
-    requires { IsText arguments.now }
+    requires { IsLineText arguments.now }
     ensures { MatchResult result
         (λ response. version_response (drop 1 arguments.now) ≡ Some response)
         (λ fault. Misses fault (version_response (drop 1 arguments.now))) }
@@ -150,7 +150,7 @@ fn word_response(word: &[u8]) -> Option<Response>
 
 /// The text that follows the first word: all but one space.
 fn copy_text(alloc: Global, arguments: &[u8]) -> Result<Text, NoMemory>
-    requires { IsText arguments.now }
+    requires { IsLineText arguments.now }
     ensures { IfOk result (λ copy. copy ≡ drop 1 arguments.now) }
 {
     let text = without_first(arguments);
@@ -170,15 +170,16 @@ fn without_first(bytes: &[u8]) -> &[u8]
 /// What follows the word `VALUE`: the rest of its line, the data, and the line `END`.
 fn read_value<'a>(
     alloc: Global,
-    kind: Kind,
+    kind: SentKind,
     arguments: &[u8],
     rest: &'a [u8],
 ) -> Result<(Value, &'a [u8]), ReadFault>
     ensures { MatchResult result
-        (λ read. SplitsBody (seen kind.entry) (value_line arguments.now) rest.now read.0 read.1.now)
-        (λ fault. BodyFault fault (seen kind.entry) (value_line arguments.now) rest.now) }
+        (λ read. SplitsBody (kind_seen kind.entry) (value_line arguments.now) rest.now
+        read.0 read.1.now)
+        (λ fault. BodyFault fault (kind_seen kind.entry) (value_line arguments.now) rest.now) }
 {
-    let Kind::Retrieval { key, unique } = kind else {
+    let SentKind::Retrieval { key, unique } = kind else {
         return Err(ReadFault::Unreadable);
     };
     let (head, data, rest) = find_value(key, unique, arguments, rest)?;
@@ -210,7 +211,7 @@ fn find_value<'a>(
 
 /// Where a value is in the bytes that begin with it.
 #[derive(Clone, Copy, Debug)]
-struct Place {
+struct ValueOffsets {
     head: Head,
     /// Where its data begin.
     begin: usize,
@@ -219,7 +220,7 @@ struct Place {
 }
 
 /// The place of the value of this key that the bytes begin with, if their first word announces one.
-fn place_of_value(key: &Key, unique: bool, bytes: &[u8]) -> Result<Option<Place>, ReadFault>
+fn place_of_value(key: &Key, unique: bool, bytes: &[u8]) -> Result<Option<ValueOffsets>, ReadFault>
     ensures { MatchResult result
         (λ found. IfSome found (λ place. IsPlaced key.now unique bytes.now place))
         (λ fault. ReadsOf (Retrieval key.now unique) bytes.now (Err fault)) }
@@ -229,7 +230,7 @@ fn place_of_value(key: &Key, unique: bool, bytes: &[u8]) -> Result<Option<Place>
         let begin = bytes.len() - rest.len();
         let (head, _, rest) = find_value(key, unique, arguments, rest)?;
         let len = bytes.len() - rest.len();
-        return Ok(Some(Place { head, begin, len }));
+        return Ok(Some(ValueOffsets { head, begin, len }));
     }
     Ok(None)
 }
@@ -246,7 +247,7 @@ fn take_kind(
     ensures err { OnErr result (bytes.new.items ≡ bytes.old.items) }
 {
     let Some(place) = place_of_value(key, unique, bytes.as_slice())? else {
-        return read_kind(alloc, Kind::Retrieval { key, unique }, bytes.as_slice());
+        return read_kind(alloc, SentKind::Retrieval { key, unique }, bytes.as_slice());
     };
     let key = key.copy(alloc)?;
     let value = Value {
@@ -294,7 +295,7 @@ pub(super) fn value_head(arguments: &[u8], key: &[u8], unique: bool) -> Option<H
         (λ head. (is_some head.unique ≡ unique)
         × IsHead (value_line arguments.now) key.now head.flags head.size head.unique) }
 {
-    let mut words = Words::of(arguments);
+    let mut words = SpacedWords::of(arguments);
     let found = words.next()?;
     let flags = words.next()?;
     let size = words.next()?;
@@ -312,7 +313,7 @@ pub(super) fn value_head(arguments: &[u8], key: &[u8], unique: bool) -> Option<H
 }
 
 /// The cas number that the last words of a value's first line are, where it has one.
-fn cas_number(mut words: Words, unique: bool) -> Option<Option<u64>>
+fn cas_number(mut words: SpacedWords, unique: bool) -> Option<Option<u64>>
     ensures { MatchOption result
         ((cas : Option ℕ) → is_some cas ≡ unique → IsCas words.entry cas → ⊥)
         (λ cas. (is_some cas ≡ unique) × IsCas words.entry cas) }

@@ -131,7 +131,8 @@ fn append_parts<'a>(
     out: &mut Vec<u8>,
 ) -> Result<(), NoMemory>
     ensures ok { OnOk result ((end : List ℕ) → last.now ≡ codes "\r\n" ++ end
-        → out.new.items ≡ out.old.items ++ value_text (parts key.now flags bytes.now unique) ++ end) }
+        → out.new.items ≡ out.old.items
+        ++ value_text (parts key.now flags bytes.now unique) ++ end) }
     ensures err { OnErr result (out.new.items ≡ out.old.items) }
 {
     match unique {

@@ -2,7 +2,7 @@
 //! of a desk.
 ghost use Rattle.std.specs.Prelude.{◌≡◌, All, IfOk, length};
 ghost use Rattle.tko_tracker.specs.Seated.{ArePasses, IsOf};
-ghost use Rattle.tko_threads.specs.Workers.{AreReady, IsEquipped};
+ghost use Rattle.tko_threads.specs.Workers.{AreMembersReady, IsEquipped};
 
 use super::staged::{Meets, Staged};
 use super::{PATIENCE, SETTINGS, delays};
@@ -38,7 +38,7 @@ const CONFIG: &[u8] =
 
 /// How the session of a worker's only client ends.
 #[derive(Clone, Copy, PartialEq, Eq)]
-enum End {
+enum EndCase {
     /// No byte can be read behind its request.
     Read,
     /// No byte of the reply can be written.
@@ -73,7 +73,7 @@ impl Source for Once {
 }
 
 /// A source of one client, whose session ends so, or of none.
-fn source_of(alloc: Global, end: Option<End>) -> Result<Once, Fail> {
+fn source_of(alloc: Global, end: Option<EndCase>) -> Result<Once, Fail> {
     let client = match end {
         Some(end) => Some(client(alloc, end)?),
         None => None,
@@ -83,11 +83,11 @@ fn source_of(alloc: Global, end: Option<End>) -> Result<Once, Fail> {
 
 /// Both ends of a client that sends one request. Only where memory is to run out its server is
 /// another one, which no worker marks.
-fn client(alloc: Global, end: End) -> Result<(Taped, Taped), Fail> {
+fn client(alloc: Global, end: EndCase) -> Result<(Taped, Taped), Fail> {
     let (request, read_stop, write_stop) = match end {
-        End::Read => (b"get a\r\n", Some(1), None),
-        End::Write => (b"get a\r\n", None, Some(0)),
-        End::Memory => (b"get b\r\n", None, None),
+        EndCase::Read => (b"get a\r\n", Some(1), None),
+        EndCase::Write => (b"get a\r\n", None, Some(0)),
+        EndCase::Memory => (b"get b\r\n", None, None),
     };
     let reader = taped(alloc, request.as_slice(), read_stop)?;
     let writer = taped(alloc, b"".as_slice(), write_stop)?;
@@ -116,26 +116,33 @@ fn config_of_two(alloc: Global) -> Result<Config, Fail>
 
 /// What three members share.
 #[derive(Drop)]
-struct Shared<'t, N: Named> {
+struct MembersShared<'t, N: Named> {
     seating: SharedSeating<'t, N>,
     book: Mutex<Book>,
 }
 
 /// One of the three.
-type Ending<'a, 't, N> = Member<'a, Once, IdlePass, SharedSeating<'t, N>, Staged<'a>, FrozenClock>;
+type EndingMember<'a, 't, N> = Member<
+    'a,
+    Once,
+    IdlePass,
+    SharedSeating<'t, N>,
+    Staged<'a>,
+    FrozenClock,
+>;
 
-impl<'t, N: Named> Shared<'t, N> {
+impl<'t, N: Named> MembersShared<'t, N> {
     /// A member for each pass, whose client's session ends so.
     fn members<'a>(
         &'a self,
         alloc: Global,
         passes: Vec<IdlePass>,
         shares: &'a mut [Share],
-        ends: &[Option<End>],
-    ) -> Result<Vec<Ending<'a, 't, N>>, Fail>
+        ends: &[Option<EndCase>],
+    ) -> Result<Vec<EndingMember<'a, 't, N>>, Fail>
         requires own { All (λ idle. IsOf N.tracker idle) passes.items }
         requires servers { N.tracker.settings.servers ≡ 2 }
-        ensures ready { IfOk result (λ members. AreReady (λ _ idle. IsOf N.tracker idle)
+        ensures ready { IfOk result (λ members. AreMembersReady (λ _ idle. IsOf N.tracker idle)
             (λ _. N.tracker.settings.servers)
             (λ links. length links.inner.sends) members.items) }
     {
@@ -145,7 +152,7 @@ impl<'t, N: Named> Shared<'t, N> {
             members.push(Member {
                 source: source_of(alloc, end)?,
                 idle,
-                parts: self.parts(alloc, end == Some(End::Memory), share)?,
+                parts: self.parts(alloc, end == Some(EndCase::Memory), share)?,
             })?;
         }
         Ok(members)
@@ -193,13 +200,13 @@ fn meet<
     alloc: Global,
     tracker: &Tracker,
     desk: &Desk<N>,
-    ends: &[Option<End>],
+    ends: &[Option<EndCase>],
 ) -> Result<WorkerReport, Fail>
     requires named { tracker.now ≡ N.tracker }
     requires servers { N.tracker.settings.servers ≡ 2 }
 {
     let (book, mut shares) = Book::open(alloc, 0, 3)?;
-    let shared = Shared {
+    let shared = MembersShared {
         seating: SharedSeating::<N>::new(tracker, 2),
         book: Mutex::new(book),
     };
@@ -217,7 +224,7 @@ fn meet_and_close<
     alloc: Global,
     tracker: Tracker,
     passes: Vec<IdlePass>,
-    ends: &[Option<End>],
+    ends: &[Option<EndCase>],
 ) -> Result<(WorkerReport, [Mark; 2]), Fail>
     requires named { tracker ≡ N.tracker }
     requires passes { ArePasses N.tracker passes.items }
@@ -249,7 +256,11 @@ fn workers_whose_sessions_end_by_faults_give_their_passes_back(
 ) -> Result<(), Fail> {
     let _sockets: Option<(TcpStream, TcpListener)> = None;
     let (tracker, passes) = open(rt.alloc(), THREE.settings(rt.alloc())?)?;
-    let ends = [Some(End::Read), Some(End::Write), Some(End::Memory)];
+    let ends = [
+        Some(EndCase::Read),
+        Some(EndCase::Write),
+        Some(EndCase::Memory),
+    ];
     let (report, marks) = meet_and_close::<_, Brand>(&rt, rt.alloc(), tracker, passes, &ends)?;
     let expected = WorkerReport {
         sessions: 3,

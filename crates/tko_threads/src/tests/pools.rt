@@ -1,12 +1,12 @@
 //! Two workers at once, with the health of the servers in a lock and without one.
 ghost use Rattle.std.specs.Prelude.{◌≡◌, All, IfOk, length};
 ghost use Rattle.tko_tracker.specs.Seated.{ArePasses};
-ghost use Rattle.tko_threads.specs.Workers.{AreReady, IsEquipped};
+ghost use Rattle.tko_threads.specs.Workers.{AreMembersReady, IsEquipped};
 
 use super::gate::Gate;
-use super::screen::{Visit, Visits};
+use super::screen::{ScreenVisit, Visits};
 use super::staged::{Meets, Staged};
-use super::{SETTINGS, Two, config, delays};
+use super::{OneServerSettings, SETTINGS, config, delays};
 use crate::{Account, Member, WorkerParts, pool};
 use std::alloc::Global;
 use std::marker::Brand;
@@ -24,11 +24,11 @@ use tko_prober::Probers;
 use tko_tracker::{IdlePass, Named, Tracker, open};
 
 /// Each member has one client.
-const VISITS: [Visit; 1] = [Visit::Client(b"get a\r\n")];
+const VISITS: [ScreenVisit; 1] = [ScreenVisit::Client(b"get a\r\n")];
 
 /// What two members share.
 #[derive(Drop)]
-struct Shared<S> {
+struct PoolShared<S> {
     seating: S,
     book: Mutex<Book>,
     text: Mutex<Vec<u8>>,
@@ -38,7 +38,7 @@ struct Shared<S> {
 /// One of the two.
 type Overlapping<'a, P, S> = Member<'a, Visits<'a>, P, S, Staged<'a>, FrozenClock>;
 
-impl<P: Drop, S: Seating<Idle = P>> Shared<S> {
+impl<P: Drop, S: Seating<Idle = P>> PoolShared<S> {
     /// A member with one client for each seat. The first has the first of the two requests.
     fn members<'a>(
         &'a self,
@@ -48,7 +48,7 @@ impl<P: Drop, S: Seating<Idle = P>> Shared<S> {
     ) -> Result<Vec<Overlapping<'a, P, S>>, Fail>
         requires own { All (λ idle. S.own self.now.seating idle) seats.items }
         requires servers { S.servers self.now.seating ≡ 1 }
-        ensures ready { IfOk result (λ members. AreReady S.own S.servers
+        ensures ready { IfOk result (λ members. AreMembersReady S.own S.servers
             (λ links. length links.inner.sends) members.items) }
     {
         let mut members = Vec::new(alloc);
@@ -105,7 +105,7 @@ impl<P: Drop, S: Seating<Idle = P>> Shared<S> {
 
 /// What a pool of two came to.
 #[derive(Drop)]
-struct Ended {
+struct PoolEnded {
     workers: usize,
     late: bool,
     text: Vec<u8>,
@@ -117,12 +117,12 @@ fn run_both<
     P: Drop + Send,
     H: Health + Drop + Send,
     S: Seating<Idle = P, Worker = H> + Drop + Sync,
->(rt: &R, alloc: Global, seating: S, seats: Vec<P>) -> Result<Ended, Fail>
+>(rt: &R, alloc: Global, seating: S, seats: Vec<P>) -> Result<PoolEnded, Fail>
     requires own { All (λ idle. S.own seating idle) seats.items }
     requires servers { S.servers seating ≡ 1 }
 {
     let (book, mut shares) = Book::open(alloc, 0, 2)?;
-    let shared = Shared {
+    let shared = PoolShared {
         seating,
         book: Mutex::new(book),
         text: Mutex::new(Vec::new(alloc)),
@@ -130,7 +130,7 @@ fn run_both<
     };
     let members = shared.members(alloc, seats, &mut shares)?;
     let workers = pool(rt, alloc, members)?.len();
-    Ok(Ended {
+    Ok(PoolEnded {
         workers,
         late: shared.gate.is_late(),
         text: shared.text.into_inner(),
@@ -141,7 +141,7 @@ fn run_both<
 fn run_both_at<
     R: Wait + Net<Stream = TcpStream, Listener = TcpListener> + Clock + Threads + Sync,
     N: Named + Send + Sync,
->(rt: &R, alloc: Global, tracker: &Tracker, passes: Vec<IdlePass>) -> Result<Ended, Fail>
+>(rt: &R, alloc: Global, tracker: &Tracker, passes: Vec<IdlePass>) -> Result<PoolEnded, Fail>
     requires named { tracker.now ≡ N.tracker }
     requires passes { ArePasses N.tracker passes.items }
     requires servers { N.tracker.settings.servers ≡ 1 }
@@ -163,7 +163,10 @@ fn workers_overlap(rt: HostRuntime) -> Result<(), Fail> {
 #[test]
 fn workers_in_a_lock_overlap(rt: HostRuntime) -> Result<(), Fail> {
     let _sockets: Option<(TcpStream, TcpListener)> = None;
-    let (seating, seats) = LockedSeating::<Two>::open(rt.alloc(), SETTINGS.settings(rt.alloc())?)?;
+    let (seating, seats) = LockedSeating::<OneServerSettings>::open(
+        rt.alloc(),
+        SETTINGS.settings(rt.alloc())?,
+    )?;
     let ended = run_both(&rt, rt.alloc(), seating, seats)?;
     assert_eq!(rt; (ended.workers, ended.late), (2, false));
     assert_eq!(rt; ended.text.as_slice(), b"END\r\nEND\r\n".as_slice());

@@ -30,7 +30,7 @@ impl<'a> Outlet for Screen<'a> {
 
 /// What a source gives.
 #[derive(Clone, Copy)]
-pub enum Visit<'a> {
+pub enum ScreenVisit<'a> {
     /// A client that sends this.
     Client(&'a [u8]),
     Idle,
@@ -39,7 +39,7 @@ pub enum Visit<'a> {
 /// A source of these visits, one after another.
 #[derive(Drop)]
 pub struct Visits<'a> {
-    pub visits: &'a [Visit<'a>],
+    pub visits: &'a [ScreenVisit<'a>],
     pub next: usize,
     pub text: &'a Mutex<Vec<u8>>,
 }
@@ -59,10 +59,10 @@ impl<'a> Source for Visits<'a> {
         let visit = self.visits.get(self.next);
         self.next = self.next.saturating_add(1);
         match visit {
-            Some(Visit::Client(bytes)) => {
+            Some(ScreenVisit::Client(bytes)) => {
                 Next::Connection(Piped::new(*bytes), Screen { text: self.text }, PATIENCE)
             }
-            Some(Visit::Idle) => Next::Idle,
+            Some(ScreenVisit::Idle) => Next::Idle,
             None => Next::Closed,
         }
     }

@@ -2,7 +2,7 @@
 
 use super::gate::Gate;
 use tko_io::IoRuntime;
-use tko_links::{Links, NoMemory, Outcome, Scripted};
+use tko_links::{ExchangeNoMemory, Links, Outcome, Scripted};
 use tko_model::{Clear, Duty};
 use tko_text::Request;
 
@@ -42,12 +42,12 @@ impl<'a> Links for Staged<'a> {
         rt: &R,
         clear: Clear,
         request: &Request,
-    ) -> Result<Outcome, NoMemory> {
+    ) -> Result<Outcome, ExchangeNoMemory> {
         match &self.meets {
             Meets::Nothing => {}
             Meets::NoMemory => {
                 if self.inner.sends(clear.server()) < u64::MAX {
-                    return Err(NoMemory { sent: false });
+                    return Err(ExchangeNoMemory { sent: false });
                 }
             }
             Meets::FirstAt(gate) => gate.hold_first(rt),
@@ -60,7 +60,7 @@ impl<'a> Links for Staged<'a> {
         outcome
     }
 
-    fn probe<R: IoRuntime>(&mut self, rt: &R, duty: Duty) -> Result<Outcome, NoMemory> {
+    fn probe<R: IoRuntime>(&mut self, rt: &R, duty: Duty) -> Result<Outcome, ExchangeNoMemory> {
         self.inner.probe(rt, duty)
     }
 

@@ -2,8 +2,8 @@
 ghost use Rattle.std.specs.Prelude.{◌≡◌};
 ghost use Rattle.tko_tracker.specs.Seated.{ArePasses};
 
-use super::screen::{Visit, Visits};
-use super::{SETTINGS, Two, config, delays};
+use super::screen::{ScreenVisit, Visits};
+use super::{OneServerSettings, SETTINGS, config, delays};
 use crate::{Account, WorkerParts, WorkerReport, worker};
 use std::alloc::Global;
 use std::marker::Brand;
@@ -22,7 +22,7 @@ use tko_tracker::{IdlePass, Named, Tracker, open};
 
 /// What one worker left.
 #[derive(Drop)]
-struct Left {
+struct WorkerLeft {
     text: Vec<u8>,
     /// What its share of the ledger counted.
     counts: Counts,
@@ -32,7 +32,7 @@ struct Left {
 /// What one worker meets.
 #[derive(Drop)]
 struct Case<'a> {
-    visits: &'a [Visit<'a>],
+    visits: &'a [ScreenVisit<'a>],
     moments: Vec<u64>,
     /// Those of the one server.
     scripts: Vec<Script>,
@@ -47,7 +47,7 @@ fn work<R: Wait + Net<Stream = TcpStream> + Clock, P: Drop, S: Seating<Idle = P>
     seating: S,
     seat: P,
     case: Case<'_>,
-) -> Result<Left, Fail>
+) -> Result<WorkerLeft, Fail>
     requires own { S.own seating seat }
     requires servers { S.servers seating ≡ 1 }
 {
@@ -81,7 +81,7 @@ fn work<R: Wait + Net<Stream = TcpStream> + Clock, P: Drop, S: Seating<Idle = P>
         log: WorkerLog::off(),
     };
     let (_, report) = worker(rt, alloc, source, seat, parts);
-    Ok(Left {
+    Ok(WorkerLeft {
         text: text.into_inner(),
         counts: share.counts(),
         report,
@@ -93,8 +93,11 @@ fn work_in_lock<R: Wait + Net<Stream = TcpStream> + Clock>(
     rt: &R,
     alloc: Global,
     case: Case<'_>,
-) -> Result<Left, Fail> {
-    let (seating, mut seats) = LockedSeating::<Two>::open(alloc, SETTINGS.settings(alloc)?)?;
+) -> Result<WorkerLeft, Fail> {
+    let (seating, mut seats) = LockedSeating::<OneServerSettings>::open(
+        alloc,
+        SETTINGS.settings(alloc)?,
+    )?;
     let seat = seats.pop().ok_or("a seat")?;
     work(rt, alloc, seating, seat, case)
 }
@@ -104,7 +107,7 @@ fn work_without_lock<R: Wait + Net<Stream = TcpStream> + Clock>(
     rt: &R,
     alloc: Global,
     case: Case<'_>,
-) -> Result<Left, Fail> {
+) -> Result<WorkerLeft, Fail> {
     let (tracker, passes) = open(alloc, SETTINGS.settings(alloc)?)?;
     work_at::<R, Brand>(rt, alloc, &tracker, passes, case)
 }
@@ -116,7 +119,7 @@ fn work_at<R: Wait + Net<Stream = TcpStream> + Clock, N: Named>(
     tracker: &Tracker,
     passes: Vec<IdlePass>,
     case: Case<'_>,
-) -> Result<Left, Fail>
+) -> Result<WorkerLeft, Fail>
     requires named { tracker.now ≡ N.tracker }
     requires passes { ArePasses N.tracker passes.items }
     requires servers { N.tracker.settings.servers ≡ 1 }
@@ -137,11 +140,11 @@ fn outage(alloc: Global) -> Result<Vec<Script>, Fail> {
 }
 
 /// A client before and after the idle turns in which the probe of the server is due.
-const OUTAGE: [Visit<'static>; 4] = [
-    Visit::Client(b"get a\r\n"),
-    Visit::Idle,
-    Visit::Idle,
-    Visit::Client(b"get a\r\n"),
+const OUTAGE: [ScreenVisit<'static>; 4] = [
+    ScreenVisit::Client(b"get a\r\n"),
+    ScreenVisit::Idle,
+    ScreenVisit::Idle,
+    ScreenVisit::Client(b"get a\r\n"),
 ];
 
 /// A timeout marks the server. Its probe is due with the second idle turn, and is answered.
@@ -155,7 +158,7 @@ fn probed_when_idle(alloc: Global) -> Result<Case<'static>, Fail> {
 }
 
 /// What each worker of that case leaves: its replies, probes and attempts, and sessions.
-fn is_as_probed(left: &Left) -> bool {
+fn is_as_probed(left: &WorkerLeft) -> bool {
     let report = WorkerReport {
         sessions: 2,
         faults: 0,
@@ -191,7 +194,10 @@ fn faults_and_a_full_ledger_are_reported(rt: HostRuntime) -> Result<(), Fail> {
     let alloc = rt.alloc();
     let long = vec![in alloc; b'x'; 65_537]?;
     let case = Case {
-        visits: &[Visit::Client(&long), Visit::Client(b"get a\r\n")],
+        visits: &[
+            ScreenVisit::Client(&long),
+            ScreenVisit::Client(b"get a\r\n"),
+        ],
         moments: Vec::new(alloc),
         scripts: outage(alloc)?,
         requests: u64::MAX,

@@ -62,7 +62,7 @@ fn end_inside(tracker: &Tracker, pass: Pass, op: Op, steps: u32)
 
 /// A thread whose last call is cut.
 #[derive(Clone, Copy)]
-struct Ending {
+struct EndingThread {
     /// The call that it makes before, if any.
     before: Option<Op>,
     /// Its last call, and how many steps it takes of it.
@@ -73,8 +73,8 @@ struct Ending {
     answered: Reply,
 }
 
-fn row(before: Option<Op>, op: Op, steps: u32, found: Reply, answered: Reply) -> Ending {
-    Ending {
+fn row(before: Option<Op>, op: Op, steps: u32, found: Reply, answered: Reply) -> EndingThread {
+    EndingThread {
         before,
         cut: (op, steps),
         found,
@@ -84,7 +84,7 @@ fn row(before: Option<Op>, op: Op, steps: u32, found: Reply, answered: Reply) ->
 
 /// A slot that is held is given back by nobody, so that each try of another thread is lost. A slot
 /// that is firm is that of a mark.
-fn endings() -> [Ending; 14] {
+fn endings() -> [EndingThread; 14] {
     let soft = Some(Op::SoftFailure);
     let hard = Some(Op::HardFailure);
     let up = Reply::Up(0);
@@ -109,7 +109,7 @@ fn endings() -> [Ending; 14] {
 }
 
 /// The last pass is not enough to close the tracker.
-fn end(rt: &impl Abort, alloc: Global, ending: &Ending) -> Result<(), Fail> {
+fn end(rt: &impl Abort, alloc: Global, ending: &EndingThread) -> Result<(), Fail> {
     let (tracker, passes) = open(alloc, SETTINGS.settings(alloc)?)?;
     let (mut first, mut second) = last_two(&tracker, passes).expect(rt, "two passes");
     if let Some(op) = ending.before {

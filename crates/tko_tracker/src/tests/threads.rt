@@ -76,10 +76,15 @@ fn pair<R: Threads + Sync>(
 }
 
 /// The passes of two threads.
-type Two = (IdlePass, IdlePass);
+type TwoPasses = (IdlePass, IdlePass);
 
 /// Four threads at once. Returns their passes, and how many changes they made together.
-fn four<R: Threads + Sync>(rt: &R, tracker: &Tracker, first: Two, last: Two) -> (Two, Two, u64)
+fn four<R: Threads + Sync>(
+    rt: &R,
+    tracker: &Tracker,
+    first: TwoPasses,
+    last: TwoPasses,
+) -> (TwoPasses, TwoPasses, u64)
     requires first { IsOf tracker.now first.0 × IsOf tracker.now first.1 }
     requires last { IsOf tracker.now last.0 × IsOf tracker.now last.1 }
     requires servers { tracker.now.settings.servers ≡ 2 }

@@ -1,9 +1,9 @@
 use Rattle.std.proofs.Common.{◌<◌, length}
-use Rattle.tko_client.specs.Counts.{AreCounted}
+use Rattle.tko_client.specs.Counts.{AreSendsCounted}
 use Rattle.tko_client.proofs.counting.count_sends.Given as goal
 
 abbrev pub invariant-loop : goal.invariant-loop
 invariant-loop g l = record {
-  counts : AreCounted l.server l.counter l.initial.parts l.parts;
+  counts : AreSendsCounted l.server l.counter l.initial.parts l.parts;
   within : l.server < length l.parts.backend.links;
 }

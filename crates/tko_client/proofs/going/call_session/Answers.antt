@@ -1,5 +1,5 @@
 use Rattle.std.proofs.Common.{refl, subst, sym}
-use Rattle.tko_client.specs.Answerings.{IsIdle}
+use Rattle.tko_client.specs.Answerings.{IsClientIdle}
 use Rattle.tko_client.specs.Calls.{IsCalled}
 use Rattle.tko_client.specs.declared.calls.Went.TheVariants.{Short}
 use Rattle.tko_client.specs.Steps.{client_ghosts}
@@ -16,7 +16,7 @@ returns-in-Ok g c =
     let same = c.in_default.ensures.none in
     let ghosts = client_ghosts {C = g.row.C.Denot} g.H.Health g.T.Trails in
     subst (λ old. IsCalled ghosts g.H.Health.servers c.in-Ok.went (old, c.args.parts.now) (record c.hand_over.new.it { session = c.go_once.new.session; told = c.go_once.new.told }, c.go_once.new.parts)) same
-    (session_called ghosts g.H.Health.servers c.in-Ok.went c.hand_over.new.it (record c.hand_over.new.it { session = c.go_once.new.session; told = c.go_once.new.told }) c.args.parts.now c.go_once.new.parts (subst IsIdle (sym same) c.requires.idle) refl
+    (session_called ghosts g.H.Health.servers c.in-Ok.went c.hand_over.new.it (record c.hand_over.new.it { session = c.go_once.new.session; told = c.go_once.new.told }) c.args.parts.now c.go_once.new.parts (subst IsClientIdle (sym same) c.requires.idle) refl
     c.in-Ok.ensures.ok c.in-Ok.ensures.goes c.in-Ok.ensures.own c.in-Ok.ensures.asks c.in-Ok.ensures.reading c.go_once.ensures.ready c.go_once.ensures.stays)
 
 pub returns-in-Err : goal.returns-in-Err
@@ -24,5 +24,5 @@ returns-in-Err g c =
     let same = c.in_default.ensures.none in
     let ghosts = client_ghosts {C = g.row.C.Denot} g.H.Health g.T.Trails in
     subst (λ old. IsCalled ghosts g.H.Health.servers Short (old, c.args.parts.now) (record c.hand_over.new.it { session = c.go_once.new.session; told = c.go_once.new.told }, c.go_once.new.parts)) same
-    (session_short ghosts g.H.Health.servers c.hand_over.new.it (record c.hand_over.new.it { session = c.go_once.new.session; told = c.go_once.new.told }) c.args.parts.now c.go_once.new.parts (subst IsIdle (sym same) c.requires.idle) refl
+    (session_short ghosts g.H.Health.servers c.hand_over.new.it (record c.hand_over.new.it { session = c.go_once.new.session; told = c.go_once.new.told }) c.args.parts.now c.go_once.new.parts (subst IsClientIdle (sym same) c.requires.idle) refl
     c.in-Err.ensures.err c.in-Err.ensures.between c.go_once.ensures.stays)

@@ -1,5 +1,5 @@
 use Rattle.std.proofs.Common.{None, subst}
-use Rattle.tko_client.specs.Answerings.{awaited_by}
+use Rattle.tko_client.specs.Answerings.{awaited_by_client}
 use Rattle.tko_client.specs.Calls.{IsCalled}
 use Rattle.tko_client.specs.Staying.{stayed_on}
 use Rattle.tko_client.specs.Steps.{client_ghosts}
@@ -21,7 +21,7 @@ loop-preserved g c =
     let was = c.loop.invariant in
     let call = subst (λ w. IsCalled ghosts g.H.Health.servers w (c.loop.it, c.loop.parts) (c.call_once.new.it, c.call_once.new.parts)) c.in-On.is c.call_once.ensures in record {
       gone = called_on ghosts g.H.Health.servers (c.args.it.now, c.args.parts.now) (c.loop.it, c.loop.parts) (c.call_once.new.it, c.call_once.new.parts) was.gone was.stays call;
-      asks = asking_on None (awaited_by c.args.it.now) (awaited_by c.loop.it) (awaited_by c.call_once.new.it) was.asks call.asks;
+      asks = asking_on None (awaited_by_client c.args.it.now) (awaited_by_client c.loop.it) (awaited_by_client c.call_once.new.it) was.asks call.asks;
       stays = stayed_on was.stays call.left.stays;
       servers = servers_on call.left.stays was.servers;
       ready = call.left.ready;

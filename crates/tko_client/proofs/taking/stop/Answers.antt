@@ -2,7 +2,7 @@ use Rattle.std.proofs.Common.{◌≡◌, ◌<◌, ◌≢◌, Err, ap, false, len
 use Rattle.tko_links.specs.Links.{most_sends}
 use Rattle.tko_reply.specs.Interactions.{with_noted}
 use Rattle.tko_client.specs.Answerings.{AreSettled}
-use Rattle.tko_client.specs.Keys.{HaveCome}
+use Rattle.tko_client.specs.Keys.{HaveActedOnOutcome}
 use Rattle.tko_client.specs.Steps.{HasStayed, client_ghosts}
 use Rattle.tko_client.proofs.GoingLemmas.{settled}
 use Rattle.tko_client.proofs.TakingLemmas.{awaited_within, keys_awaits, keys_taken, sent_to, session_stopped}
@@ -26,7 +26,7 @@ returns-in-Some-clause-taken g c =
     let same = c.tell_unsent.ensures.same in
     keys_taken g.H.Health g.T.Trails g.H.Health.servers c.args.unsent c.args.server (Err (record { sent = false })) c.args.it.now c.in-Some.keys c.stop_keys.new.keys c.args.parts.now
     c.stop_keys.new.parts c.requires.ready c.in-Some.is
-    (subst (λ p. HaveCome (client_ghosts {C = g.row.C.Denot} g.H.Health g.T.Trails) c.args.unsent c.args.server (Err (record { sent = false })) (c.in-Some.keys, p) (c.stop_keys.new.keys, c.stop_keys.new.parts))
+    (subst (λ p. HaveActedOnOutcome (client_ghosts {C = g.row.C.Denot} g.H.Health g.T.Trails) c.args.unsent c.args.server (Err (record { sent = false })) (c.in-Some.keys, p) (c.stop_keys.new.keys, c.stop_keys.new.parts))
     same c.stop_keys.ensures.taken)
     (subst (λ p. HasStayed g.H.Health.servers p c.stop_keys.new.parts) same c.stop_keys.ensures.stays)
 

@@ -1,7 +1,7 @@
 use Rattle.std.proofs.Common.{Err, ap, rules}
 use Rattle.std.proofs.lemmas.Result.{err_from_is_err_and}
 use Rattle.tko_commands.specs.DryRuns.{words_in}
-use Rattle.tko_commands.specs.Outcomes.{AllAsk, Refuses}
+use Rattle.tko_commands.specs.Outcomes.{AllAsk, RefusesOutcomes}
 use Rattle.tko_commands.proofs.DryLemmas.{begun, begun_reaches, is_dry, no_lines, not_configured, not_listed, not_opened, not_set, session_failed, trails_cut, untouched}
 use Rattle.tko_commands.proofs.GroupedLemmas.{no_fault}
 use Rattle.tko_commands.proofs.dry.dry.Goals as goal
@@ -9,7 +9,7 @@ use Rattle.tko_commands.proofs.dry.dry.Goals as goal
 pub returns-in_err-scripts-clause-err : goal.returns-in_err-scripts-clause-err
 returns-in_err-scripts-clause-err g c =
     let p = err_from_is_err_and c.from_residual.result c.from_residual.ensures.1 in
-    let bad : Refuses (words_in c.args.options.now) c.in_err-scripts.field-0.0 = search rules in
+    let bad : RefusesOutcomes (words_in c.args.options.now) c.in_err-scripts.field-0.0 = search rules in
     rw (p.1, p.2)
     (not_listed g.I.Inlet g.O.Outlet c.args.options.now (c.args.input.now, c.args.output.now)
     c.in_err-scripts.field-0.0 bad)

@@ -6,7 +6,7 @@ use tko_model::{Mark, Op, Reply, ServerState, Settings, Transition};
 
 /// A call of the thread of this number, its reply, and the moments around it.
 #[derive(Clone, Copy)]
-pub(super) struct Made {
+pub(super) struct TimedCall {
     pub(super) number: u32,
     pub(super) op: Op,
     pub(super) reply: Reply,
@@ -30,7 +30,7 @@ pub(super) fn is_change(reply: Reply) -> bool {
 
 /// How many calls of each thread stand in an order, and the mark that they leave.
 #[derive(Clone, Copy, PartialEq, Eq)]
-struct Point {
+struct OrderPoint {
     one: usize,
     other: usize,
     mark: Mark,
@@ -41,11 +41,11 @@ struct Point {
 pub(super) fn have_order(
     alloc: Global,
     settings: &Settings,
-    one: &[Made],
-    other: &[Made],
+    one: &[TimedCall],
+    other: &[TimedCall],
     last: Mark,
 ) -> Result<bool, AllocError> {
-    let opened = Point {
+    let opened = OrderPoint {
         one: 0,
         other: 0,
         mark: Mark::Up(0),
@@ -64,10 +64,10 @@ pub(super) fn have_order(
 /// The points with one call more.
 fn next_points(
     settings: &Settings,
-    one: &[Made],
-    other: &[Made],
-    points: &mut Vec<Point>,
-    following: &mut Vec<Point>,
+    one: &[TimedCall],
+    other: &[TimedCall],
+    points: &mut Vec<OrderPoint>,
+    following: &mut Vec<OrderPoint>,
 ) -> Result<(), AllocError> {
     following.clear();
     for point in points.iter() {
@@ -76,7 +76,7 @@ fn next_points(
             let one = point.one.wrapping_add(1);
             add(
                 following,
-                Point {
+                OrderPoint {
                     one,
                     mark,
                     ..*point
@@ -87,7 +87,7 @@ fn next_points(
             let other = point.other.wrapping_add(1);
             add(
                 following,
-                Point {
+                OrderPoint {
                     other,
                     mark,
                     ..*point
@@ -99,7 +99,7 @@ fn next_points(
     Ok(())
 }
 
-fn add(points: &mut Vec<Point>, point: Point) -> Result<(), AllocError> {
+fn add(points: &mut Vec<OrderPoint>, point: OrderPoint) -> Result<(), AllocError> {
     if points.contains(&point) {
         return Ok(());
     }
@@ -113,8 +113,8 @@ fn add(points: &mut Vec<Point>, point: Point) -> Result<(), AllocError> {
 fn mark_after(
     settings: &Settings,
     mark: Mark,
-    call: Option<&Made>,
-    beside: Option<&Made>,
+    call: Option<&TimedCall>,
+    beside: Option<&TimedCall>,
 ) -> Option<Mark> {
     let call = call?;
     let mut is_beside = false;

@@ -2,7 +2,7 @@
 ghost use Rattle.std.specs.Prelude.{◌≡◌, ◌<◌, IfOk};
 ghost use Rattle.tko_tracker.specs.Seated.{IsOf};
 
-use super::order::{Made, is_change};
+use super::order::{TimedCall, is_change};
 use crate::tests::handing::reply;
 use crate::{Book, Desk, Kind, Share};
 use std::alloc::{AllocError, Global};
@@ -32,7 +32,7 @@ const OPS: [Op; 8] = [
 
 /// What the threads share beside the tracker.
 #[derive(Drop)]
-pub(super) struct Shared<N: Named> {
+pub(super) struct ThreadsShared<N: Named> {
     pub(super) desk: Desk<N>,
     pub(super) book: Mutex<Book>,
     /// Counts moments.
@@ -47,7 +47,7 @@ fn make_calls(
     tracker: &Tracker,
     clock: &AtomicU64,
     idle: IdlePass,
-    calls: &mut Vec<Made>,
+    calls: &mut Vec<TimedCall>,
 ) -> Result<(IdlePass, u64), AllocError>
     requires tracker { IsOf tracker.now idle }
     requires servers { 0 < tracker.now.settings.servers }
@@ -62,7 +62,7 @@ fn make_calls(
         let reply = reply(tracker, &mut pass, op, 0);
         let end = clock.fetch_add(1, Ordering::SeqCst);
         changes = changes.wrapping_add(is_change(reply) as u64);
-        calls.push(Made {
+        calls.push(TimedCall {
             number,
             op,
             reply,
@@ -77,7 +77,7 @@ fn make_calls(
     let end = clock.fetch_add(1, Ordering::SeqCst);
     if owned {
         changes = changes.wrapping_add(1);
-        calls.push(Made {
+        calls.push(TimedCall {
             number,
             op: Op::Release,
             reply: released(found),
@@ -101,9 +101,9 @@ pub(super) fn hammer<R: Wait + Abort, N: Named>(
     rt: &R,
     alloc: Global,
     tracker: &Tracker,
-    shared: &Shared<N>,
+    shared: &ThreadsShared<N>,
     share: Share,
-) -> (Share, Vec<Made>)
+) -> (Share, Vec<TimedCall>)
     requires named { tracker.now ≡ N.tracker }
     requires servers { 0 < N.tracker.settings.servers }
 {
@@ -128,7 +128,7 @@ pub(super) fn hammer<R: Wait + Abort, N: Named>(
 /// The third: takes a pass from the desk and gives it back until the two are done, and counts them.
 pub(super) fn lend<R: Wait + Abort, N: Named>(
     rt: &R,
-    shared: &Shared<N>,
+    shared: &ThreadsShared<N>,
     share: Share,
 ) -> (Share, u64) {
     let mut share = share;

@@ -43,7 +43,7 @@ pub(super) const CALLS: [(Op, usize); COUNT] = [
 
 /// What the calls are answered, and each server's mark and stamp at the end.
 #[derive(Clone, Copy)]
-pub(super) struct Plan {
+pub(super) struct ExpectedEnd {
     pub(super) replies: [Reply; COUNT],
     pub(super) servers: [(Mark, u64); 2],
 }
@@ -74,7 +74,7 @@ fn release_all(rt: &impl Abort, plain: &mut Plain) {
 
 /// What the sequential tracker does: the calls, and before the one at this place, and after the
 /// last, a release of each mark.
-pub(super) fn plan_of(rt: &impl Abort, alloc: Global, cut: usize) -> Result<Plan, Fail> {
+pub(super) fn plan_of(rt: &impl Abort, alloc: Global, cut: usize) -> Result<ExpectedEnd, Fail> {
     let mut plain = Plain::open(alloc, SETTINGS.settings(alloc)?)?;
     let mut replies = [Reply::Contended; COUNT];
     for place in 0..COUNT {
@@ -86,5 +86,5 @@ pub(super) fn plan_of(rt: &impl Abort, alloc: Global, cut: usize) -> Result<Plan
     }
     release_all(rt, &mut plain);
     let servers = [server_of(rt, &plain, 0), server_of(rt, &plain, 1)];
-    Ok(Plan { replies, servers })
+    Ok(ExpectedEnd { replies, servers })
 }

@@ -1,6 +1,6 @@
 use Rattle.std.proofs.Common.{◌≡◌}
 use Rattle.serde_json.specs.View.{members_view}
-use Rattle.tko_explain.specs.Reasons.{place_text}
+use Rattle.tko_explain.specs.Reasons.{bad_address_text}
 use Rattle.tko_pools.specs.Json.{pools_of}
 use Rattle.tko_explain.proofs.reasons.append_place.Given as goal
 
@@ -10,5 +10,5 @@ invariant-loop-name l =
     (goal.iterator-loop-name).can_next l.name-iterator
     × (goal.iterator-loop-name).is_finite l.name-iterator
     × (l.out.items ≡ l.initial.out.items)
-    × (place_text (pools_of (members_view l.name-iterator))
-    ≡ place_text (pools_of (members_view l.pools.entries)))
+    × (bad_address_text (pools_of (members_view l.name-iterator))
+    ≡ bad_address_text (pools_of (members_view l.pools.entries)))

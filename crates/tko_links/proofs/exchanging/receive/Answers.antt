@@ -1,5 +1,5 @@
 use Rattle.std.proofs.Common.{refl, arith}
-use Rattle.tko_links.specs.Incoming.{Arrival, arrival}
+use Rattle.tko_links.specs.Incoming.{ResponseSoFar, arrival}
 use Rattle.tko_links.proofs.ReceiveLemmas.{got_more, got_none, receives_failed}
 use Rattle.tko_links.proofs.ReceiveLemmas.{receives_judged, receives_reply}
 use Rattle.tko_links.proofs.exchanging.receive.Goals as goal
@@ -14,7 +14,7 @@ loop-init g c =
 
 pub loop-preserved : goal.loop-preserved
 loop-preserved g c =
-    let next : Arrival = record { bytes = c.read.new.self; least = c.loop.incoming.least } in
+    let next : ResponseSoFar = record { bytes = c.read.new.self; least = c.loop.incoming.least } in
     record {
       got =
           got_more next (arrival c.look.new.self) c.loop.invariant.got c.in-Ok.ensures

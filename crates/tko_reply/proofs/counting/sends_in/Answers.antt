@@ -2,11 +2,11 @@ use Rattle.std.proofs.Common.{rules, tests, ◌∙◌}
 use Rattle.std.proofs.lemmas.Iterator.{YieldsList-from_slice}
 use Rattle.std.proofs.lemmas.Iterator.Consumers.{YieldsList-from_filter, count_from_yields_List}
 use Rattle.std.proofs.lemmas.List.Sums.{length-filter}
-use Rattle.tko_reply.specs.Counting.{is_sent}
+use Rattle.tko_reply.specs.Counting.{is_sent_attempt}
 use Rattle.tko_reply.proofs.counting.sends_in.Goals as goal
 
 pub returns : goal.returns
 returns c =
     count_from_yields_List c.filter.result c.count.result c.count.ensures.ran
-    (YieldsList-from_filter _ is_sent (YieldsList-from_slice c.args.attempts.now cc) c.filter.ensures.closure (λ x r q k. search (rules, tests)))
-    ∙ length-filter is_sent c.args.attempts.now
+    (YieldsList-from_filter _ is_sent_attempt (YieldsList-from_slice c.args.attempts.now cc) c.filter.ensures.closure (λ x r q k. search (rules, tests)))
+    ∙ length-filter is_sent_attempt c.args.attempts.now

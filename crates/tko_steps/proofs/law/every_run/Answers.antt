@@ -2,7 +2,7 @@
 use Rattle.std.proofs.lemmas.List.Elements.{All-weaker}
 use Rattle.tko_steps.specs.Legal.{ChangesAtMostOnce, IsFullAtLimit, IsLegal}
 use Rattle.tko_steps.specs.Lost.{ExpectsWhatItSaw, HasLostEachTry}
-use Rattle.tko_steps.specs.Runs.{Call, calls_of, run}
+use Rattle.tko_steps.specs.Runs.{RunCall, calls_of, run}
 use Rattle.tko_steps.proofs.ChainLemmas.{ChangesAreOwn-run, IsChain-run}
 use Rattle.tko_steps.proofs.EveryCallLemmas.{softs_in-le}
 use Rattle.tko_steps.proofs.EveryTurnLemmas.{SoundCalls-run}
@@ -27,7 +27,7 @@ returns-clause-legal c = λ s ranges turns.
 
 pub returns-clause-once : goal.returns-clause-once
 returns-clause-once c = λ s ranges turns.
-    All-weaker (IsSoundCall s) (λ (call : Call). ChangesAtMostOnce call.steps) (λ call sound. sound.once) (calls_of (run s turns).past) (SoundCalls-run s ranges turns)
+    All-weaker (IsSoundCall s) (λ (call : RunCall). ChangesAtMostOnce call.steps) (λ call sound. sound.once) (calls_of (run s turns).past) (SoundCalls-run s ranges turns)
 
 pub returns-clause-full : goal.returns-clause-full
 returns-clause-full c = λ s ranges turns.
@@ -45,7 +45,7 @@ returns-clause-lost c = λ s ranges turns.
 
 pub returns-clause-expected : goal.returns-clause-expected
 returns-clause-expected c = λ s ranges turns.
-    All-weaker (IsTried s) (λ (call : Call). ExpectsWhatItSaw s call.steps) (λ call tried. tried.1) (calls_of (run s turns).past) (TriedCalls-run s ranges turns).1.calls
+    All-weaker (IsTried s) (λ (call : RunCall). ExpectsWhatItSaw s call.steps) (λ call tried. tried.1) (calls_of (run s turns).past) (TriedCalls-run s ranges turns).1.calls
 
 pub returns-clause-others : goal.returns-clause-others
 returns-clause-others c = LosesToOthers-run

@@ -2,7 +2,7 @@ use Rattle.std.proofs.Common.{◌≡◌, ◌+◌, ◌∙◌, ap, sym, subst, ref
 use Rattle.tko_text.specs.declared.data.DataEnd.TheVariants as end
 use Rattle.tko_text.specs.declared.fault.TextFault.TheVariants as fault
 use Rattle.tko_text.specs.declared.item.Item.TheVariants as item
-use Rattle.tko_text.specs.declared.state.State.TheVariants as state
+use Rattle.tko_text.specs.declared.state.ReaderState.TheVariants as state
 use Rattle.tko_text.specs.DataEnds.{EndsData}
 use Rattle.tko_text.specs.States.{IsState, Steps, at, reading_of, whole_request}
 use Rattle.tko_text.proofs.StepLemmas.{pending_open, pending_whole, pending_wrong_line, pending_wrong, pushed, reading_line}

@@ -1,6 +1,6 @@
 use Rattle.std.proofs.Common.{refl, subst}
 use Rattle.tko_mux.specs.Muxes.{MuxState}
-use Rattle.tko_port.specs.declared.guest.Event.TheVariants.{Leave}
+use Rattle.tko_port.specs.declared.guest.ClientEvent.TheVariants.{Leave}
 use Rattle.tko_worker.specs.Workers.{HasReached, IsHere, leaving}
 use Rattle.tko_worker.proofs.NotedLemmas.{client_left, event_reached, leaving_rests, reached_lines}
 use Rattle.tko_worker.proofs.serving.drop_client.Goals as goal

@@ -3,7 +3,7 @@ use Rattle.tko_worker.proofs.CountLemmas.{once_ends, once_served, served_counts}
 use Rattle.tko_worker.proofs.RestLemmas.{served_rests}
 use Rattle.tko_worker.proofs.ActedLemmas.{acted_on, dropped_acted, made_acted}
 use Rattle.tko_mux.specs.declared.asking.Given.TheVariants.{Input}
-use Rattle.tko_port.specs.declared.guest.Event.TheVariants.{Serve}
+use Rattle.tko_port.specs.declared.guest.ClientEvent.TheVariants.{Serve}
 use Rattle.tko_worker.proofs.serving.serve_once.Goals as goal
 
 pub returns-in-Rests-clause-ends : goal.returns-in-Rests-clause-ends

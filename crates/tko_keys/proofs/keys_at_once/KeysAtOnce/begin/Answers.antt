@@ -3,7 +3,7 @@ use Rattle.tko_text.specs.declared.request.Request.{Request}
 use Rattle.tko_route.specs.Routing.{GoesOn}
 use Rattle.tko_reply.specs.Cuts.{KeyLost}
 use Rattle.tko_keys.specs.KeysDriven.{AreUnderWay, due_by, failed_with}
-use Rattle.tko_keys.specs.KeysState.{KeySlot, KeysState, MayBegin, places_in, values_ahead}
+use Rattle.tko_keys.specs.KeysState.{KeySlot, KeysState, MayBegin, key_places_in, values_ahead}
 use Rattle.tko_keys.specs.Steps.{said_by}
 use Rattle.tko_keys.proofs.EndLemmas.{ahead_push, begin_lost_ends, begun_ready}
 use Rattle.tko_keys.proofs.KeptLemmas.{held_push, places_of, said_out}
@@ -74,10 +74,10 @@ invariant_of-self-in-Ok-came g c =
     } in
     let after : AreUnderWay c.args.config.now New = begun_ready {new = New} c.begin-came.new.self ready may c.in-Ok-came.ensures.ok slots
     (due ∙ ap (λ n. c.self.inside.due.items ++ due_by n said) place) c.make_room.ensures.sends refl refl refl refl in
-    let all : length (places_in c.note_step.new.due.items c.make_room.new.sends.items c.self.inside.came)
-    ≡ length (places_in c.self.inside.due.items c.self.inside.sends.items c.self.inside.came) + length (due_by c.len-place.result said) =
-    ap (λ ds. length (places_in ds c.make_room.new.sends.items c.self.inside.came)) due
-    ∙ ap (λ ss. length (places_in (c.self.inside.due.items ++ due_by c.len-place.result said) ss c.self.inside.came)) c.make_room.ensures.sends
+    let all : length (key_places_in c.note_step.new.due.items c.make_room.new.sends.items c.self.inside.came)
+    ≡ length (key_places_in c.self.inside.due.items c.self.inside.sends.items c.self.inside.came) + length (due_by c.len-place.result said) =
+    ap (λ ds. length (key_places_in ds c.make_room.new.sends.items c.self.inside.came)) due
+    ∙ ap (λ ss. length (key_places_in (c.self.inside.due.items ++ due_by c.len-place.result said) ss c.self.inside.came)) c.make_room.ensures.sends
     ∙ said_out c.self.inside.due.items c.self.inside.sends.items c.self.inside.came c.len-place.result said in
     let count : c.len.result ≡ length c.begin-came.new.self.outbox = search rules in
     let sum : c.saturating_add-self-inside.result ≡ min (c.self.inside.held + c.len.result) (2 ^ 64 - 1) = search rules in (
@@ -100,9 +100,9 @@ invariant_of-self-in-Err g c =
     c.push_reserved-in-Err.ensures.items ∙ ap (λ (xs : List KeySlot). xs ++ c.begin-came.new.self ∷ []) c.make_room.ensures.slots in
     let ends = begin_lost_ends {slots' = c.push_reserved-in-Err.new.self.items} {due' = c.make_room.new.due.items} {sends' = c.make_room.new.sends.items} c.begin-came.new.self c.self.view_is ready may
     c.in-Ok-next_request.ensures.ok on c.in-Err.ensures.err slots c.make_room.ensures.due c.make_room.ensures.sends in
-    let all : length (places_in c.make_room.new.due.items c.make_room.new.sends.items c.self.inside.came) ≡ length (places_in c.self.inside.due.items c.self.inside.sends.items c.self.inside.came) =
-    ap (λ ds. length (places_in ds c.make_room.new.sends.items c.self.inside.came)) c.make_room.ensures.due
-    ∙ ap (λ ss. length (places_in c.self.inside.due.items ss c.self.inside.came)) c.make_room.ensures.sends in
+    let all : length (key_places_in c.make_room.new.due.items c.make_room.new.sends.items c.self.inside.came) ≡ length (key_places_in c.self.inside.due.items c.self.inside.sends.items c.self.inside.came) =
+    ap (λ ds. length (key_places_in ds c.make_room.new.sends.items c.self.inside.came)) c.make_room.ensures.due
+    ∙ ap (λ ss. length (key_places_in c.self.inside.due.items ss c.self.inside.came)) c.make_room.ensures.sends in
     let count : c.len.result ≡ length c.begin-came.new.self.outbox = search rules in
     let sum : c.saturating_add-self-inside.result ≡ min (c.self.inside.held + c.len.result) (2 ^ 64 - 1) = search rules in (
       c.in-Ok-next_request.ensures.alone,

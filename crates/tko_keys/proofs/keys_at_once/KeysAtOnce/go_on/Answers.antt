@@ -1,6 +1,6 @@
 use Rattle.std.proofs.Common.{◌≡◌, ◌+◌, ◌-◌, ◌^◌, length, min, ap, arith, subst, sym, rules, refl, ◌∙◌}
 use Rattle.tko_keys.specs.KeysDriven.{AreUnderWay, failed_with}
-use Rattle.tko_keys.specs.KeysState.{KeysCame, places_in, values_ahead}
+use Rattle.tko_keys.specs.KeysState.{KeysCame, key_places_in, values_ahead}
 use Rattle.tko_keys.specs.Steps.{said_by}
 use Rattle.tko_keys.proofs.EndLemmas.{ahead_set, at_came, dropped_places, lost_ends, out_dropped, out_taken, room_taken, slot_out, taken_ends}
 use Rattle.tko_keys.proofs.KeptLemmas.{held_set, places_of}
@@ -69,7 +69,7 @@ invariant_of-self g c =
       c.values_ahead-self-inside.ensures ∙ ap values_ahead c.deref.ensures.value,
       places_of _ ends.1,
       held,
-      out ∙ ap (λ ds. length (places_in ds c.self.inside.sends.items c.take-came.new.came)) (sym c.note_step.ensures.due),
+      out ∙ ap (λ ds. length (key_places_in ds c.self.inside.sends.items c.take-came.new.came)) (sym c.note_step.ensures.due),
       omega (arith, c.note_step.ensures.out, one_said place said, some, c.self.invariant.5, c.note_step.ensures.room),
       omega (arith, c.note_step.ensures.out, one_said place said, some, c.self.invariant.6),
     )

@@ -1,5 +1,5 @@
 use Rattle.std.proofs.Common.{◌≡◌, true, false, sym, ap, ◌∙◌}
-use Rattle.tko_keys.specs.Lines.{key_at, key_in}
+use Rattle.tko_keys.specs.Lines.{key_at, key_in_request}
 use Rattle.tko_keys.specs.KeysState.{KeySlot}
 use Rattle.tko_keys.proofs.DueLemmas.{gathered_none, gathered_short, gathered_some}
 use Rattle.tko_keys.proofs.LineLemmas.{key_read}
@@ -15,8 +15,8 @@ returns-then-not-is_due-clause-gathered c =
 pub returns-in-Ok-clause-gathered : goal.returns-in-Ok-clause-gathered
 returns-in-Ok-clause-gathered c =
     let read = key_read c.args.slots.now c.args.place c.index-slots-place.result c.requires.slot c.index-slots-place.is in
-    let key : key_in c.request.result.now ≡ key_at c.args.slots.now c.args.place =
-    ap key_in (c.request.ensures ∙ ap (λ (k : KeySlot). k.key.request) c.slot.view_is) ∙ read in
+    let key : key_in_request c.request.result.now ≡ key_at c.args.slots.now c.args.place =
+    ap key_in_request (c.request.ensures ∙ ap (λ (k : KeySlot). k.key.request) c.slot.view_is) ∙ read in
     gathered_some key c.in-Ok.ensures.others (c.fill-short.ensures.filled c.args.unique _ c.in-Ok.ensures.group)
 
 pub returns-in-Err-clause-gathered : goal.returns-in-Err-clause-gathered

@@ -1,6 +1,6 @@
 use Rattle.std.proofs.Common.{ap, refl}
 use Rattle.tko_reply.specs.Asking.{last, next}
-use Rattle.tko_reply.specs.declared.asking.Share.TheVariants.{Joined}
+use Rattle.tko_reply.specs.declared.asking.ReplyPart.TheVariants.{Joined}
 use Rattle.tko_reply.proofs.asking.joining.join_next.Goals as goal
 
 pub returns-in-Some-clause-ok : goal.returns-in-Some-clause-ok

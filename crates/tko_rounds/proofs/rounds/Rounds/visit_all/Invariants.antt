@@ -3,13 +3,13 @@ use Rattle.tko_client.specs.Clients.{awaits, talk_of}
 use Rattle.tko_worker.specs.Turns.{socket_at}
 use Rattle.tko_worker.specs.Workers.{IsInOrder}
 use Rattle.tko_rounds.specs.Parts.{with_probing}
-use Rattle.tko_rounds.specs.Rounds.{AreVisited}
+use Rattle.tko_rounds.specs.Rounds.{AreEventVisited}
 use Rattle.tko_rounds.specs.Workers.{KeepsClients, is_ready, parts_in, state_of}
 use Rattle.tko_rounds.proofs.rounds.Rounds.visit_all.Given as goal
 
 abbrev pub invariant-loop-server : goal.invariant-loop-server
 invariant-loop-server g l = record {
-  visits : AreVisited g.H.Health l.moment l.due (state_of l.initial.self l.initial.worker) l.server l.short
+  visits : AreEventVisited g.H.Health l.moment l.due (state_of l.initial.self l.initial.worker) l.server l.short
       (state_of l.self l.worker);
   parts : parts_in l.worker.clients
       ≡ with_probing (parts_in l.worker.clients).backend (parts_in l.initial.worker.clients);

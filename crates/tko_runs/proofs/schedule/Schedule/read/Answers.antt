@@ -2,7 +2,7 @@ use Rattle.std.proofs.Common.{⊎_elim, ap, rules, ◌≡◌, ◌∙◌, Some, N
 use Rattle.tko_model.specs.Ranges.{IsWithin, first_fault_in}
 use Rattle.tko_runs.specs.Versions.{layout_of}
 use Rattle.std.proofs.lemmas.Result.{err_from_is_err_and}
-use Rattle.tko_runs.specs.Schedules.{Header, plan_of}
+use Rattle.tko_runs.specs.Schedules.{ScheduleHeader, plan_of}
 use Rattle.tko_runs.proofs.HeaderLemmas.{is_fault, is_memory, passes}
 use Rattle.tko_runs.proofs.PlayStepLemmas.{first_fault-within}
 use Rattle.tko_runs.proofs.ScheduleLemmas.{reads-commands, reads-header, reads-long, reads-plan}
@@ -19,7 +19,7 @@ returns-in_err-version-clause-err c =
 pub returns-in_err-commands-clause-err : goal.returns-in_err-commands-clause-err
 returns-in_err-commands-clause-err c =
     let p = err_from_is_err_and c.from_residual-in_err-commands.result c.from_residual-in_err-commands.ensures.1 in
-    let head : Header = record { version = c.in_ok-version.version; settings = c.in_ok-version.settings } in
+    let head : ScheduleHeader = record { version = c.in_ok-version.version; settings = c.in_ok-version.settings } in
     rw (p.1, p.2) (
     ⊎_elim
     (is_memory _ _)
@@ -29,7 +29,7 @@ returns-in_err-commands-clause-err c =
 
 pub returns-in-Err-clause-err : goal.returns-in-Err-clause-err
 returns-in-Err-clause-err c =
-    let head : Header = record { version = c.in_ok-version.version; settings = c.in_ok-version.settings } in
+    let head : ScheduleHeader = record { version = c.in_ok-version.version; settings = c.in_ok-version.settings } in
     let commands = c.in_ok-commands.commands.items in
     let found : first_fault_in (layout_of head.version) head.settings ≡ Some c.in-Err.outside =
     rw c.layout.ensures at ((c.check_in.ensures.err c.in-Err.outside).0 c.in-Err.is) in
@@ -39,7 +39,7 @@ returns-in-Err-clause-err c =
 
 pub returns-clause-ok : goal.returns-clause-ok
 returns-clause-ok c =
-    let head : Header = record { version = c.in_ok-version.version; settings = c.in_ok-version.settings } in
+    let head : ScheduleHeader = record { version = c.in_ok-version.version; settings = c.in_ok-version.settings } in
     let commands = c.in_ok-commands.commands.items in
     let within : IsWithin c.layout.result head.settings = search rules in
     let found : first_fault_in (layout_of head.version) head.settings ≡ None =

@@ -2,7 +2,7 @@ use Rattle.std.proofs.Common.{ap, subst, sym, take, ◌∙◌}
 use Rattle.tko_reply.specs.Asking.{BeginsAt}
 use Rattle.tko_reply.specs.Standing.{asking}
 use Rattle.tko_reply.proofs.HeldLemmas.{front_stays}
-use Rattle.tko_session.specs.Driven.{IsOut, IsReadyFor, OutcomeDropped, OutcomeTaken, dropped}
+use Rattle.tko_session.specs.Driven.{IsReadyFor, IsSendOut, OutcomeDropped, OutcomeTaken, dropped}
 use Rattle.tko_session.specs.SessionState.{SessionState}
 use Rattle.tko_session.specs.Working.{key_work, work_at}
 use Rattle.tko_session.proofs.CallLemmas.{awaits_same, dropped_again, going, key_of_work, outcome_dropped, outcome_taken}
@@ -32,7 +32,7 @@ returns-in-Ok-clause-ready g c =
     let aims = ap (λ (s : SessionState). s.targets) same in
     let found = sym c.replace.ensures.value ∙ c.in-Sent.is in
     let awaited = sym (ap (λ (s : SessionState). s.work) same) ∙ ap work_at c.in-Key.is ∙ ap (key_work key) found in
-    let out : IsOut c.args.config.now c.args.self.now it-was = subst (IsReadyFor c.args.config.now c.args.self.now) awaited c.requires.ready in
+    let out : IsSendOut c.args.config.now c.args.self.now it-was = subst (IsReadyFor c.args.config.now c.args.self.now) awaited c.requires.ready in
     outcome_ready c.args.config.now out
     (outcome_taken c.args.outcome it-was c.in-Ok.stage c.answered.new.self _ _ _ _ _ _ _ _ _ c.in-Ok.ensures.ok.is (c.go_to.ensures.step _ (key_of_work _ _)) (c.go_to.ensures.went _ (key_of_work _ _))
     (c.as_slice-targets.ensures.value ∙ aims) (ap (λ (s : SessionState). s.outbox) same) (ap (λ (s : SessionState). s.reading) same)
@@ -46,7 +46,7 @@ returns-in-Err-clause-err g c =
     let aims = ap (λ (s : SessionState). s.targets) same in
     let found = sym c.replace.ensures.value ∙ c.in-Sent.is in
     let awaited = sym (ap (λ (s : SessionState). s.work) same) ∙ ap work_at c.in-Key.is ∙ ap (key_work key) found in
-    let out : IsOut c.args.config.now c.args.self.now it-was = subst (IsReadyFor c.args.config.now c.args.self.now) awaited c.requires.ready in
+    let out : IsSendOut c.args.config.now c.args.self.now it-was = subst (IsReadyFor c.args.config.now c.args.self.now) awaited c.requires.ready in
     let held = subst (λ (s : SessionState). BeginsAt s.begin key.share s.outbox) (sym same) out.begins in
     let left = front_stays _ _ _ _ held c.in-Err.ensures.err ∙ ap (λ (s : SessionState). take s.begin s.outbox) same in
     let again = dropped_again c.args.self.now _ _ _ _ _ _ left (ap (λ (s : SessionState). s.reading) same) (ap (λ (s : SessionState). s.requests) same)

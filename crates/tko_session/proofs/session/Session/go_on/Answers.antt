@@ -1,6 +1,6 @@
 use Rattle.std.proofs.Common.{ap, subst, sym, take, ◌∙◌}
 use Rattle.std.specs.Prelude.{IsSome}
-use Rattle.tko_reply.specs.Asking.{BeginsAt, Continues}
+use Rattle.tko_reply.specs.Asking.{BeginsAt, ContinuesKeys}
 use Rattle.tko_reply.proofs.HeldLemmas.{front_stays, has_front, next_held}
 use Rattle.tko_session.specs.Driven.{IsReadyFor, dropped}
 use Rattle.tko_session.specs.SessionState.{SessionState}
@@ -27,7 +27,7 @@ returns-then-not-keyed-clause-ok g c =
     let at = c.in-Key.field-0.wait in
     let work = sym (ap (λ (s : SessionState). s.work) same) ∙ ap work_at c.in-Key.is in
     let is = work ∙ ended_work key at (subst (λ w. IsSome (ended_in w)) work c.requires.tried) in
-    let goes = subst (λ (s : SessionState). Continues key s.outbox c.in-Ok.keyed c.go_on.new.self c.go_on.new.outbox) same c.in-Ok.ensures.ok in
+    let goes = subst (λ (s : SessionState). ContinuesKeys key s.outbox c.in-Ok.keyed c.go_on.new.self c.go_on.new.outbox) same c.in-Ok.ensures.ok in
     going_none c.args.health.now
     (key_over c.args.config.now is c.if-not-keyed.true goes
     (ap (λ (s : SessionState). record s { outbox = c.go_on.new.outbox; work = key_work c.go_on.new.self at }) same)
@@ -42,7 +42,7 @@ begin-requires-clause-front g c =
     let is = work ∙ ended_work key at (subst (λ w. IsSome (ended_in w)) work c.requires.tried) in
     let ready : BeginsAt c.args.self.now.begin key.share c.args.self.now.outbox = subst (IsReadyFor c.args.config.now c.args.self.now) is c.requires.ready in
     let held' = subst (λ (s : SessionState). BeginsAt s.begin key.share s.outbox) (sym same) ready in
-    let goes' = subst (λ b. Continues key c.self.inside.outbox b c.go_on.new.self c.go_on.new.outbox) c.if-not-keyed.false c.in-Ok.ensures.ok in
+    let goes' = subst (λ b. ContinuesKeys key c.self.inside.outbox b c.go_on.new.self c.go_on.new.outbox) c.if-not-keyed.false c.in-Ok.ensures.ok in
     let held = next_held c.self.inside.begin key c.go_on.new.self c.self.inside.outbox c.go_on.new.outbox held' goes' in
     has_front _ c.go_on.new.self.share _ held
 
@@ -53,7 +53,7 @@ returns-in-Ok-begin-clause-ok g c =
     let at = c.in-Key.field-0.wait in
     let work = sym (ap (λ (s : SessionState). s.work) same) ∙ ap work_at c.in-Key.is in
     let is = work ∙ ended_work key at (subst (λ w. IsSome (ended_in w)) work c.requires.tried) in
-    let goes = subst (λ (s : SessionState). Continues key s.outbox c.in-Ok.keyed c.go_on.new.self c.go_on.new.outbox) same c.in-Ok.ensures.ok in
+    let goes = subst (λ (s : SessionState). ContinuesKeys key s.outbox c.in-Ok.keyed c.go_on.new.self c.go_on.new.outbox) same c.in-Ok.ensures.ok in
     going c.in-Ok-begin.ensures.ok (λ calls on.
     key_passed c.args.config.now is c.if-not-keyed.false goes
     (λ waits. key_begun c.go_on.new.self c.in-Ok-begin.stage c.begin.new.self calls _ _ _ _ _ _ _ on c.in-Ok-begin.ensures.targets c.in-Ok-begin.ensures.within
@@ -70,9 +70,9 @@ returns-in-Err-clause-err g c =
     let is = work ∙ ended_work key at (subst (λ w. IsSome (ended_in w)) work c.requires.tried) in
     let ready : BeginsAt c.args.self.now.begin key.share c.args.self.now.outbox = subst (IsReadyFor c.args.config.now c.args.self.now) is c.requires.ready in
     let held' = subst (λ (s : SessionState). BeginsAt s.begin key.share s.outbox) (sym same) ready in
-    let goes' = subst (λ b. Continues key c.self.inside.outbox b c.go_on.new.self c.go_on.new.outbox) c.if-not-keyed.false c.in-Ok.ensures.ok in
+    let goes' = subst (λ b. ContinuesKeys key c.self.inside.outbox b c.go_on.new.self c.go_on.new.outbox) c.if-not-keyed.false c.in-Ok.ensures.ok in
     let held = next_held c.self.inside.begin key c.go_on.new.self c.self.inside.outbox c.go_on.new.outbox held' goes' in
-    let goes = subst (λ (s : SessionState). Continues key s.outbox c.in-Ok.keyed c.go_on.new.self c.go_on.new.outbox) same c.in-Ok.ensures.ok in
+    let goes = subst (λ (s : SessionState). ContinuesKeys key s.outbox c.in-Ok.keyed c.go_on.new.self c.go_on.new.outbox) same c.in-Ok.ensures.ok in
     going c.in-Err.ensures.lost (λ calls lost.
     pass_lost c.args.config.now is c.if-not-keyed.false goes
     (λ waits.

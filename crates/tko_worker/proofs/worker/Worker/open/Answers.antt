@@ -1,6 +1,6 @@
 use Rattle.std.proofs.Common.{rules, refl, subst, sym}
 use Rattle.tko_port.specs.declared.guest.Presence.TheVariants.{Here}
-use Rattle.tko_worker.specs.Workers.{IsOpened, NobodyForgotten, WorkerState}
+use Rattle.tko_worker.specs.Workers.{IsClientOpened, NobodyForgotten, WorkerState}
 use Rattle.tko_worker.proofs.RestLemmas.{admitted_others}
 use Rattle.tko_worker.proofs.ListedLemmas.{one_listed}
 use Rattle.tko_worker.proofs.ActedLemmas.{acted_same, opened_acted}
@@ -25,7 +25,7 @@ returns-clause-order g c = record {
 
 pub returns-clause-ok : goal.returns-clause-ok
 returns-clause-ok g c =
-    subst (λ (w : WorkerState _ _ _). IsOpened (
+    subst (λ (w : WorkerState _ _ _). IsClientOpened (
       g.T.Talking.awaited,
       g.T.Talking.talk,
       g.L.Port.port,

@@ -2,7 +2,7 @@ use Rattle.std.proofs.Common.{◌≡◌, refl, sym, ◌∙◌, subst}
 use Rattle.std.proofs.lemmas.List.{get_or_read}
 use Rattle.tko_runs.specs.declared.checking.point.CheckedCall.{CheckedCall}
 use Rattle.tko_runs.specs.CheckStates.{Shows}
-use Rattle.tko_runs.specs.States.{written}
+use Rattle.tko_runs.specs.States.{servers_written}
 use Rattle.tko_runs.proofs.CheckStateLemmas.{call_on_server}
 use Rattle.tko_runs.proofs.KeptLemmas.{latest_inside}
 use Rattle.tko_runs.proofs.checking.state.CheckState.step.Goals as goal
@@ -30,7 +30,7 @@ returns-clause-ok c =
     let last : c.last.result.now ≡ grows.call =
     get_or_read d.calls.all.items _ _ there c.last.ensures grows.call ∙ sym grows.is in
     let P : CheckedCall → Type 0 = λ call.
-    Shows d.settings d.run.words.servers call (written d.run.words.servers c.args.place c.args.left) c.effect_of-effect.result in
+    Shows d.settings d.run.words.servers call (servers_written d.run.words.servers c.args.place c.args.left) c.effect_of-effect.result in
     record {
       follows = c.follows.ensures.0 c.if-not-follows.false;
       effect = c.effect_of-effect.result;

@@ -1,5 +1,5 @@
 use Rattle.std.proofs.Common.{◌≡◌, ◌+◌, ◌-◌, OnOk, replicate, sym, ap, ◌∙◌, subst}
-use Rattle.tko_runs.specs.Plays.{Played, after_all}
+use Rattle.tko_runs.specs.Plays.{Played, after_all_turns}
 use Rattle.tko_steps.specs.Runs.{Step}
 use Rattle.tko_runs.proofs.PlayStepLemmas.{after_all-did, after_all-idle, after_all-none}
 use Rattle.tko_runs.proofs.playing.player.Player.steps.Goals as goal
@@ -24,6 +24,6 @@ pub loop-done-preserved : goal.loop-done-preserved
 loop-done-preserved c =
     let left = c.args.steps - (c.loop-done.done + 1) in
     let told = rw c.in-Did.ensures.state at c.in_ok-tell-in-Did.ensures in
-    ap (λ p. after_all p (replicate left (Step c.args.thread))) told
+    ap (λ p. after_all_turns p (replicate left (Step c.args.thread))) told
     ∙ after_all-did _ _ c.args.thread c.args.steps c.loop-done.done c.self.view_is c.loop-done-test.true (sym c.in-Did.ensures.reported)
     ∙ c.loop-done.invariant

@@ -1,0 +1,5 @@
+use Rattle.tko_event_threads.proofs.SeatLemmas.{reached_on}
+use Rattle.tko_event_threads.proofs.seated.SeatHealthHealth.soft_failure.Goals as goal
+
+pub invariant_of-self : goal.invariant_of-self
+invariant_of-self g c = reached_on c.self.invariant c.soft_failure.ensures.step

@@ -1,5 +1,0 @@
-use Rattle.tko_event_threads.proofs.SeatLemmas.{reached_on}
-use Rattle.tko_event_threads.proofs.seated.SeatedHealth.success.Goals as goal
-
-pub invariant_of-self : goal.invariant_of-self
-invariant_of-self g c = reached_on c.self.invariant c.success.ensures.step
