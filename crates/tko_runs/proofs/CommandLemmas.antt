@@ -7,7 +7,8 @@ use Rattle.tko_bytes.specs.Lines.{lines_of}
 use Rattle.tko_runs.specs.declared.schedule.command.Command.{Command}
 use Rattle.tko_runs.specs.declared.schedule.fault.ScheduleFault.TheVariants as fault
 use Rattle.tko_runs.specs.Limits.{max_commands}
-use Rattle.tko_runs.specs.Schedules.{bad_place, command_line, commands_of}
+use Rattle.tko_runs.specs.ScheduleLines.{command_line}
+use Rattle.tko_runs.specs.Schedules.{bad_place, commands_of}
 
 pub lines_of-empty : (text : List ℕ) → length text ≡ 0 → lines_of text ≡ []
 unfolding lines_of

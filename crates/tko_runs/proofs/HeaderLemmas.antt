@@ -10,7 +10,8 @@ use Rattle.tko_runs.specs.declared.version.Version.{Version}
 use Rattle.tko_runs.specs.declared.version.Version.TheVariants.{One, Two, Three}
 use Rattle.tko_runs.specs.Headers.{HasLine, LacksLine}
 use Rattle.tko_bytes.specs.Lines.{lines_of}
-use Rattle.tko_runs.specs.Schedules.{IsFault, counts_in, header, header_number, header_numbers, in_field, one_group_in, settings_in, several_groups_in, version_in, with_groups}
+use Rattle.tko_runs.specs.ScheduleHeaders.{counts_in, header, header_number, header_numbers, in_field, one_group_in, settings_in, several_groups_in, version_in, with_groups}
+use Rattle.tko_runs.specs.Schedules.{IsFault}
 use Rattle.tko_runs.specs.Versions.{header_lines}
 use Rattle.tko_bytes.specs.Fields.{fields_in}
 use Rattle.tko_runs.proofs.CommandLemmas.{lines_of-empty}

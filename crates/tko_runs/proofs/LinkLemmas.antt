@@ -9,7 +9,7 @@ use Rattle.tko_runs.specs.declared.run.event.Event.{Event}
 use Rattle.tko_runs.specs.declared.run.event.Event.TheVariants as event
 use Rattle.tko_runs.specs.declared.run.state.ThreadEntry.{ThreadEntry}
 use Rattle.tko_runs.specs.declared.run.state.ThreadEntry.TheVariants as entry
-use Rattle.tko_runs.specs.States.{AllCome, CanCome, Claimed, HasCall, IsThreadIdle, RunState, answered, claimed_after, claimed_after_all, entry_at, moment_of, opened_claim, opened_state}
+use Rattle.tko_runs.specs.States.{AllCome, CanCome, Claimed, HasCall, HasPlace, IsThreadIdle, RunState, answered, claimed_after, claimed_after_all, entry_at, moment_of, opened_claim, opened_state}
 use Rattle.tko_runs.specs.Orders.{AllFollow, Follows}
 use Rattle.tko_runs.specs.Runs.{event_of, events_of}
 use Rattle.tko_steps.specs.declared.step.StepKind.TheVariants as kind
@@ -25,14 +25,15 @@ use Rattle.tko_steps.specs.declared.phase.Phase.{Phase}
 use Rattle.tko_steps.specs.declared.phase.ThreadState.{ThreadState}
 use Rattle.tko_steps.specs.declared.phase.ThreadState.TheVariants.{NotEnrolled, Idle, InCall}
 use Rattle.tko_steps.specs.Runs.{Turn, Moment, World, run, start_world}
-use Rattle.tko_steps.specs.Core.{CoreState, abstract_of, follows, thread_at, word_at}
+use Rattle.tko_steps.specs.Core.{CoreState, Shared, abstract_of, follows, thread_at, word_at}
 use Rattle.tko_steps.specs.Steps.{decided_answer, decided_state, place_of, step_kind, word_after}
 use Rattle.tko_steps.specs.Table.{action_of}
 use Rattle.tko_runs.proofs.ActLemmas.{acts}
-use Rattle.tko_runs.proofs.WordActLemmas.{Acts}
+use Rattle.tko_runs.proofs.WordActLemmas.{Acts, call-step, has-place, words-left}
 use Rattle.tko_runs.proofs.EventLemmas.{AllFollow-push, claimed_after_all-push}
 use Rattle.tko_model.specs.Tracker.{server_at}
 use Rattle.tko_steps.proofs.EveryTurnLemmas.{HoldsBoth, along}
+use Rattle.tko_steps.proofs.RoomLemmas.{IsPlace-at}
 use Rattle.tko_steps.proofs.SoFarLemmas.{Knows}
 use Rattle.tko_steps.proofs.WiringLemmas.{begun, stepped_from}
 use Rattle.tko_runs.specs.Words.{CanLeave, room_at}
@@ -170,16 +171,25 @@ module _ (s : Settings) (w : World) (thread : ℕ) (call : Call) (phase : Phase)
   claimed-act : Acts w.core.settings w.core.shared call.server act → thread_at w.core thread ≡ InCall call phase
       → claimed_after (claim_of w) step_event ≡ claim_of (stepped_from w thread (InCall call phase))
   claimed-act acts stands =
-      rw (acts.steps, acts.servers, acts.slots, acts.wins, entry-at w.core thread (InCall call phase) stands, answered-decided call decision, map-set)
-      refl
+      let words = words-left w.core.settings w.core.shared call.server act in
+      rw (
+        call-step act,
+        ap (λ (it : Shared). it.servers) words,
+        ap (λ (it : Shared). it.slots) words,
+        acts.wins,
+        entry-at w.core thread (InCall call phase) stands,
+        answered-decided call decision,
+        map-set,
+      ) refl
 
   Linked-act : Linked s w → thread < length w.core.threads → thread_at w.core thread ≡ InCall call phase
-      → w.core.settings ≡ s → Acts w.core.settings w.core.shared call.server act → Linked s (stepped_from w thread (InCall call phase))
-  Linked-act linked inside stands under acts =
+      → w.core.settings ≡ s → HasPlace w.core.shared at_place → Acts w.core.settings w.core.shared call.server act
+      → Linked s (stepped_from w thread (InCall call phase))
+  Linked-act linked inside stands under there acts =
       let P : Settings → Type 0 = λ it. CanLeave it (room_at it w.core.shared.slots at_place) (step_kind act) found_word left_word in
       let has = subst HasCall (sym (entry-at w.core thread (InCall call phase) stands)) tt in
       Linked-event s w (stepped_from w thread (InCall call phase)) step_event linked
-      (rw acts.steps ((inside-at w.core thread inside, has), acts.place))
+      (rw (call-step act) ((inside-at w.core thread inside, has), there))
       (record { finds = refl; can = subst P under acts.can })
       (claimed-act acts stands)
 
@@ -191,7 +201,8 @@ Linked-called s w thread call phase both linked inside stands =
     let mine = rw stands at (both.1.stand thread) in
     let K : Settings → Type 0 = λ settings. Knows settings thread call mine.0 (server_at (abstract_of w.core) call.server) phase in
     let does = acts w.core thread call both.0.core inside mine.0 phase stands (subst K (sym both.0.settings) mine.2) in
-    Linked-act s w thread call phase linked inside stands both.0.settings does
+    let there = has-place w.core.shared _ (IsPlace-at w.core thread call both.0.core inside phase stands) in
+    Linked-act s w thread call phase linked inside stands both.0.settings there does
 
 -- each run is what its events claim
 pub Linked-run : (s : Settings) → IsWithinRanges s → (turns : List Turn) → Linked s (run s turns)

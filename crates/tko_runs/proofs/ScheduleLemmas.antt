@@ -6,7 +6,8 @@ use Rattle.tko_runs.specs.declared.schedule.command.Command.{Command}
 use Rattle.tko_runs.specs.declared.schedule.fault.ScheduleFault.{ScheduleFault}
 use Rattle.tko_runs.specs.declared.schedule.fault.ScheduleFault.TheVariants as fault
 use Rattle.tko_bytes.specs.Lines.{lines_of}
-use Rattle.tko_runs.specs.Schedules.{ScheduleHeader, commands_of, header, plan_behind, plan_in, plan_of, reads}
+use Rattle.tko_runs.specs.ScheduleHeaders.{ScheduleHeader, header}
+use Rattle.tko_runs.specs.Schedules.{commands_of, plan_behind, plan_in, plan_of, reads}
 use Rattle.tko_runs.specs.Versions.{header_lines, layout_of}
 
 pub reads-long : (text : List ℕ) → 1048576 < length text → reads text ≡ Err (fault.Line 0)

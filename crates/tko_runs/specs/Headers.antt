@@ -3,7 +3,7 @@ use Rattle.std.specs.Prelude.{◌≡◌, ℕ, List, ◌∷◌, Option, Some, Non
 use Rattle.tko_runs.specs.declared.schedule.fault.ScheduleFault.{ScheduleFault}
 use Rattle.tko_runs.specs.declared.schedule.fault.ScheduleFault.TheVariants as fault
 use Rattle.tko_bytes.specs.Lines.{lines_of}
-use Rattle.tko_runs.specs.Schedules.{schedule_line_at}
+use Rattle.tko_runs.specs.ScheduleHeaders.{schedule_line_at}
 
 -- the text begins with a line of this form and value, and this is the rest
 pub record HasLine

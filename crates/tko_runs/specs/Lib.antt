@@ -8,6 +8,8 @@ pub mod Points
 pub mod Prints
 pub mod Repeats
 pub mod Runs
+pub mod ScheduleHeaders
+pub mod ScheduleLines
 pub mod Schedules
 pub mod States
 pub mod Versions

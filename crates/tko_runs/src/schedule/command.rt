@@ -1,6 +1,6 @@
 //! The lines of a schedule after its header: what its threads do.
 ghost use Rattle.std.specs.Prelude.{◌≡◌};
-ghost use Rattle.tko_runs.specs.Schedules.{begin_of, command_line, op_named, run_of, step_command, steps_of};
+ghost use Rattle.tko_runs.specs.ScheduleLines.{begin_of, command_line, op_named, run_of, step_command, steps_of};
 
 use tko_bytes::{Fields, number};
 use tko_model::{Op, op_word};

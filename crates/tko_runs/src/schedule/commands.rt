@@ -2,7 +2,8 @@
 ghost use Rattle.std.specs.Prelude.{◌≡◌, ◌+◌, ◌<◌, ◌≤◌, ◌⊎◌, ◌++◌, [], ◌∷◌, Ok, Err, Some, None, length, IfOk, IfErr, OnOk};
 ghost use Rattle.tko_runs.specs.Limits.{max_commands};
 ghost use Rattle.tko_bytes.specs.Lines.{lines_of};
-ghost use Rattle.tko_runs.specs.Schedules.{command_line, commands_of};
+ghost use Rattle.tko_runs.specs.ScheduleLines.{command_line};
+ghost use Rattle.tko_runs.specs.Schedules.{commands_of};
 
 use crate::{Command, ScheduleFault};
 use std::alloc::Global;

@@ -1,7 +1,8 @@
 //! The header of a schedule: the lines that give its version and its settings.
 ghost use Rattle.std.specs.Prelude.{◌≡◌, ◌-◌, Ok, drop, IfOk, IfErr};
 ghost use Rattle.tko_bytes.specs.Lines.{lines_of};
-ghost use Rattle.tko_runs.specs.Schedules.{IsFault, counts_in, header, one_group_in, settings_in, several_groups_in, with_groups};
+ghost use Rattle.tko_runs.specs.ScheduleHeaders.{counts_in, header, one_group_in, settings_in, several_groups_in, with_groups};
+ghost use Rattle.tko_runs.specs.Schedules.{IsFault};
 ghost use Rattle.tko_runs.specs.Versions.{header_lines};
 
 mod lines;

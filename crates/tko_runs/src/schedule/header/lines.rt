@@ -2,7 +2,7 @@
 ghost use Rattle.std.specs.Prelude.{◌≡◌, ◌⊎◌, ◌∷◌, Some, None, IfOk, IfErr, MatchOption};
 ghost use Rattle.std.specs.Option.{option_map};
 ghost use Rattle.tko_runs.specs.Headers.{HasLine, LacksLine};
-ghost use Rattle.tko_runs.specs.Schedules.{header_number, header_numbers, in_field, values_of, version_in};
+ghost use Rattle.tko_runs.specs.ScheduleHeaders.{header_number, header_numbers, in_field, values_of, version_in};
 
 use crate::{ScheduleFault, Version};
 use std::alloc::Global;

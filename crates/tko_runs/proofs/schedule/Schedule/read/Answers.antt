@@ -2,7 +2,8 @@ use Rattle.std.proofs.Common.{⊎_elim, ap, rules, ◌≡◌, ◌∙◌, Some, N
 use Rattle.tko_model.specs.Ranges.{IsWithin, first_fault_in}
 use Rattle.tko_runs.specs.Versions.{layout_of}
 use Rattle.std.proofs.lemmas.Result.{err_from_is_err_and}
-use Rattle.tko_runs.specs.Schedules.{ScheduleHeader, plan_of}
+use Rattle.tko_runs.specs.ScheduleHeaders.{ScheduleHeader}
+use Rattle.tko_runs.specs.Schedules.{plan_of}
 use Rattle.tko_runs.proofs.HeaderLemmas.{is_fault, is_memory, passes}
 use Rattle.tko_runs.proofs.PlayStepLemmas.{first_fault-within}
 use Rattle.tko_runs.proofs.ScheduleLemmas.{reads-commands, reads-header, reads-long, reads-plan}

@@ -1,6 +1,6 @@
 use Rattle.std.proofs.Common.{◌≡◌, ◌∷◌, ◌++◌, length}
 use Rattle.std.specs.Option.{option_map}
-use Rattle.tko_runs.specs.Schedules.{values_of}
+use Rattle.tko_runs.specs.ScheduleHeaders.{values_of}
 use Rattle.tko_runs.proofs.schedule.header.lines.numbers_from.Given as goal
 
 -- the numbers so far and those of the words that are left
