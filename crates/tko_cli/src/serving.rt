@@ -1,13 +1,11 @@
 //! The command `serve`: a server over TCP, and its totals.
-ghost use Rattle.std.specs.Prelude.{◌≡◌, ◌↔◌, Err, Some, IfErr, IfOk, OnErr, OnOk};
+ghost use Rattle.std.specs.Prelude.{◌≡◌, IfErr, IfOk, OnErr, OnOk};
 ghost use Rattle.tko_cli.specs.Announcements.{IsReadyWritten};
 ghost use Rattle.tko_cli.specs.Notices.{HasNotices};
 ghost use Rattle.tko_cli.specs.Serving.{HasServedToEnd, HasTotals, IsExplained, IsRunnable, IsSilentOrNoted, PreparedFails, ServeFails, TotalsFail, fault_of_server};
 ghost use Rattle.tko_cli.specs.Totals.{totals_text};
-ghost use Rattle.tko_model.specs.Ranges.{first_fault};
-ghost use Rattle.tko_server.specs.Announcing.{IsAnnounced};
 ghost use Rattle.tko_server.specs.Closing.{HasServerEnded};
-ghost use Rattle.tko_server.specs.Runs.{tracker_settings};
+ghost use Rattle.tko_server.specs.ServerRuns.{IsServerRun};
 
 use crate::announcement::{Announcement, give_back};
 use crate::notice::{Notice, write_notice, write_notice_if};
@@ -21,9 +19,8 @@ use std::thread::Threads;
 use tko_commands::{Fault, write_text};
 use tko_desk::Totals;
 use tko_io::{IoRuntime, Outlet};
-use tko_model::SettingsFault;
 use tko_options::{Mode, ServeOptions};
-use tko_server::{Announce, Ended, ServerRunFault, WorkerReport, run_events, run_metered};
+use tko_server::{Announce, Ended, ServerRun, ServerRunFault, WorkerKind, WorkerReport, run_all};
 
 /// Serves clients over TCP until the last of the connections has ended, and then prints the totals.
 /// `ready` is printed once clients can connect: when each worker has asked for its first one.
@@ -110,10 +107,7 @@ fn run_in_mode<
     R: IoRuntime<Listener = TcpListener> + Threads + Sync + Copy + Send + 'static + Eprint,
     A: Announce + Drop,
 >(rt: &R, alloc: Global, prepared: Prepared, announcement: A) -> (A, Result<Ended, ServerRunFault>)
-    ensures settings { (fault : SettingsFault) → (result.1 ≡ Err (RunFault.Settings fault))
-        ↔ (first_fault (tracker_settings prepared.server) ≡ Some fault) }
-    ensures ended { IfOk result.1 (HasServerEnded prepared.server) }
-    ensures announced { IsAnnounced A.announces A.fails announcement result.0 result.1 }
+    ensures { IsServerRun A.announces A.fails prepared.server announcement result.0 result.1 }
 {
     let Prepared {
         mode,
@@ -122,29 +116,21 @@ fn run_in_mode<
         logging,
         metering,
     } = prepared;
+    let run = ServerRun {
+        listener: &listener,
+        kind: kind_of(mode),
+        logging,
+        metering,
+        announcement,
+    };
+    run_all(rt, alloc, &server, run)
+}
+
+/// The workers that serve in this mode.
+fn kind_of(mode: Mode) -> WorkerKind {
     match mode {
-        Mode::Threads => {
-            run_metered(
-                rt,
-                alloc,
-                &listener,
-                &server,
-                logging,
-                metering,
-                announcement,
-            )
-        }
-        Mode::Events => {
-            run_events(
-                rt,
-                alloc,
-                &listener,
-                &server,
-                logging,
-                metering,
-                announcement,
-            )
-        }
+        Mode::Threads => WorkerKind::Blocking,
+        Mode::Events => WorkerKind::Events,
     }
 }
 

@@ -7,4 +7,5 @@ pub mod Endings
 pub mod EventMembers
 pub mod Members
 pub mod Runs
+pub mod ServerRuns
 pub mod Turns

@@ -6,7 +6,7 @@ use tko_accept::{Allotment, OneQueue};
 
 /// Which workers serve clients.
 #[derive(Clone, Copy, Debug, PartialEq, Eq)]
-pub(crate) enum WorkerKind {
+pub enum WorkerKind {
     /// Each serves one client after another.
     Blocking,
     /// Each serves many clients at once, from one event to the next.

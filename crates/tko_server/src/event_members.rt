@@ -91,7 +91,7 @@ impl<'o, N: Named> WorkersShared<'o, N> {
         ensures asked { IfOk result (λ member.
             HasEventOptions self.now.options.now member.parts) }
     {
-        let log = WorkerLog::open(self.log, idle.number())?;
+        let log = WorkerLog::open(Some(self.log), idle.number())?;
         let parts = self.event_parts(alloc, log, share, way_in, first_ask)?;
         Ok(EventMember { idle, parts })
     }

@@ -30,7 +30,7 @@ pub(crate) struct WorkersShared<'o, N: Named> {
     pub(crate) options: &'o Options,
     pub(crate) seating: SharedSeating<'o, N>,
     pub(crate) book: Mutex<Book>,
-    pub(crate) log: Option<&'o Log>,
+    pub(crate) log: &'o Log,
     /// Looks up the names of the servers meanwhile.
     pub(crate) naming: Naming,
     pub(crate) kind: WorkerKind,
@@ -73,7 +73,7 @@ impl<'o, N: Named> WorkersShared<'o, N> {
     {
         let mut members = Vec::new(alloc);
         for (idle, share) in passes.into_iter().zip(shares.iter_mut()) {
-            let log = WorkerLog::open(self.log, idle.number())?;
+            let log = WorkerLog::open(Some(self.log), idle.number())?;
             members.push(Member {
                 source: self.source(&idle, accepted, first_ask)?,
                 idle,

@@ -16,7 +16,7 @@ pub(crate) fn opened(
 ) -> Result<(Tracker, Vec<IdlePass>), ServerRunFault>
     ensures asked { IfOk result (λ made. made.0.settings ≡ tracker_settings options.now) }
     ensures passes { IfOk result (λ made. ArePasses made.0 made.1.items) }
-    ensures settings { (fault : SettingsFault) → (result ≡ Err (RunFault.Settings fault))
+    ensures settings { (fault : SettingsFault) → (result ≡ Err (ServerRunFault.Settings fault))
         ↔ (first_fault (tracker_settings options.now) ≡ Some fault) }
     ensures early { IfErr result IsBeforeStart }
 {
@@ -28,7 +28,7 @@ pub(crate) fn opened(
 /// are checked before they are copied, so that memory running out hides no fault of theirs.
 fn settings_of(alloc: Global, options: &Options) -> Result<Settings, ServerRunFault>
     ensures ok { IfOk result (λ settings. settings ≡ tracker_settings options.now) }
-    ensures err { (fault : SettingsFault) → (result ≡ Err (RunFault.Settings fault))
+    ensures err { (fault : SettingsFault) → (result ≡ Err (ServerRunFault.Settings fault))
         ↔ (first_fault (tracker_settings options.now) ≡ Some fault) }
     ensures early { IfErr result IsBeforeStart }
 {

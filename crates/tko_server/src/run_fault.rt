@@ -1,7 +1,6 @@
 //! Why a server ends.
 
 use crate::AnnounceFault;
-use std::alloc::AllocError;
 use thiserror::Error;
 use tko_bytes::NoMemory;
 use tko_model::{OpenFault, SettingsFault};
@@ -28,17 +27,6 @@ impl From<NoMemory> for ServerRunFault {
     ghost from_gives = { λ _ fault. fault ≡ Memory };
 
     fn from(_: NoMemory) -> ServerRunFault {
-        ServerRunFault::Memory
-    }
-}
-
-impl From<AllocError> for ServerRunFault {
-    ghost use Rattle.std.specs.Prelude.{◌≡◌};
-    ghost use Rattle.tko_server.specs.declared.run_fault.ServerRunFault.TheVariants.{Memory};
-
-    ghost from_gives = { λ _ fault. fault ≡ Memory };
-
-    fn from(_: AllocError) -> ServerRunFault {
         ServerRunFault::Memory
     }
 }

@@ -2,10 +2,10 @@
 ghost use Rattle.std.specs.Prelude.{◌≡◌, ◌<◌, ◌↔◌, Err, IfOk, MatchOption, Some, unwrap_or};
 ghost use Rattle.tko_accept.specs.Allotments.{clients_without_limit};
 ghost use Rattle.tko_model.specs.Ranges.{first_fault};
-ghost use Rattle.tko_server.specs.Announcing.{IsAnnounced};
 ghost use Rattle.tko_server.specs.Closing.{HasServerEnded};
 ghost use Rattle.tko_server.specs.Descriptors.{IsEventAllotment, IsThreadAllotment, clients_asked};
 ghost use Rattle.tko_server.specs.Runs.{tracker_settings};
+ghost use Rattle.tko_server.specs.ServerRuns.{IsServerRun};
 
 use crate::announce::Silent;
 use crate::crew::WorkerKind;
@@ -70,6 +70,15 @@ pub struct Ended {
     pub closed: Final,
 }
 
+/// What a server is run with, once what runs beside it has begun.
+#[derive(Drop)]
+pub(crate) struct RunParts<'a, A> {
+    pub(crate) listener: &'a TcpListener,
+    pub(crate) kind: WorkerKind,
+    pub(crate) log: &'a Log,
+    pub(crate) announcement: A,
+}
+
 impl Options {
     /// What the process has descriptors for.
     pub fn allotment(&self) -> Allotment
@@ -113,7 +122,7 @@ pub fn run<R: IoRuntime<Listener = TcpListener> + Threads + Sync + Copy + Send +
     listener: &TcpListener,
     options: &Options,
 ) -> Result<Totals, ServerRunFault>
-    ensures settings { (fault : SettingsFault) → (result ≡ Err (RunFault.Settings fault))
+    ensures settings { (fault : SettingsFault) → (result ≡ Err (ServerRunFault.Settings fault))
         ↔ (first_fault (tracker_settings options.now) ≡ Some fault) }
 {
     match run_to_end(rt, alloc, listener, options) {
@@ -129,49 +138,40 @@ pub fn run_to_end<R: IoRuntime<Listener = TcpListener> + Threads + Sync + Copy +
     listener: &TcpListener,
     options: &Options,
 ) -> Result<Ended, ServerRunFault>
-    ensures settings { (fault : SettingsFault) → (result ≡ Err (RunFault.Settings fault))
+    ensures settings { (fault : SettingsFault) → (result ≡ Err (ServerRunFault.Settings fault))
         ↔ (first_fault (tracker_settings options.now) ≡ Some fault) }
     ensures ended { IfOk result (HasServerEnded options.now) }
 {
-    let kind = WorkerKind::Blocking;
-    let (_, ended) = run_told(rt, alloc, listener, options, kind, None, Silent);
+    let log = Log::off();
+    let run = RunParts {
+        listener,
+        kind: WorkerKind::Blocking,
+        log: &log,
+        announcement: Silent,
+    };
+    let (_, ended) = open_and_run(rt, alloc, options, run);
     ended
 }
 
-/// The same by workers of this kind, which tell the log what happens, if there is one, and where it
-/// is announced that clients can connect. Returns the announcement too, as the run left it.
-pub(crate) fn run_told<
+/// Opens the tracker, and runs the server over it. Returns the announcement too, as the run left
+/// it.
+pub(crate) fn open_and_run<
     R: IoRuntime<Listener = TcpListener> + Threads + Sync + Copy + Send + 'static,
     A: Announce + Drop,
 >(
     rt: &R,
     alloc: Global,
-    listener: &TcpListener,
     options: &Options,
-    kind: WorkerKind,
-    log: Option<&Log>,
-    announcement: A,
+    run: RunParts<'_, A>,
 ) -> (A, Result<Ended, ServerRunFault>)
-    ensures settings { (fault : SettingsFault) → (result.1 ≡ Err (RunFault.Settings fault))
-        ↔ (first_fault (tracker_settings options.now) ≡ Some fault) }
-    ensures ended { IfOk result.1 (HasServerEnded options.now) }
-    ensures announced { IsAnnounced A.announces A.fails announcement result.0 result.1 }
+    ensures { IsServerRun A.announces A.fails options.now run.entry.announcement
+        result.0 result.1 }
 {
     let (tracker, passes) = match opened(alloc, options) {
         Ok(opened) => opened,
-        Err(fault) => return (announcement, Err(fault)),
+        Err(fault) => return (run.announcement, Err(fault)),
     };
-    let (announcement, ended) = run_with::<Brand, R, A>(
-        rt,
-        alloc,
-        listener,
-        options,
-        kind,
-        log,
-        tracker,
-        passes,
-        announcement,
-    );
+    let (announcement, ended) = run_with::<Brand, R, A>(rt, alloc, options, run, tracker, passes);
     match ended {
         Ok(ended) => (announcement, Ok(ended)),
         Err(failed) => (announcement, Err(failed.fault)),

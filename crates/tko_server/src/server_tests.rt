@@ -1,7 +1,7 @@
 //! The server over loopback.
 
 use crate::announce::Silent;
-use crate::{Options, Patience, ServerRunFault, WorkerReport, run, run_events};
+use crate::{Options, Patience, ServerRun, ServerRunFault, WorkerKind, WorkerReport, run, run_all};
 use std::alloc::Global;
 use std::io::{Read, Write};
 use std::net::{Ipv4Addr, Net, SocketAddr, TcpListener, TcpStream};
@@ -57,8 +57,8 @@ fn serve<
     run(rt, alloc, listener, options)
 }
 
-/// `run_events` with no log and no metrics, with its bounds written out. Returns the totals, and
-/// what the workers met.
+/// `run_all` by event-driven workers, with no log and no metrics, with its bounds written out.
+/// Returns the totals, and what the workers met.
 fn serve_events<
     R: Wait
         + Net<Stream = TcpStream, Listener = TcpListener>
@@ -75,7 +75,14 @@ fn serve_events<
     listener: &TcpListener,
     options: &Options,
 ) -> Result<(Totals, WorkerReport), ServerRunFault> {
-    let (_, ended) = run_events(rt, alloc, listener, options, None, None, Silent);
+    let run = ServerRun {
+        listener,
+        kind: WorkerKind::Events,
+        logging: None,
+        metering: None,
+        announcement: Silent,
+    };
+    let (_, ended) = run_all(rt, alloc, options, run);
     let ended = ended?;
     Ok((ended.totals, ended.report))
 }

@@ -1,11 +1,12 @@
 //! A server whose workers are on threads, and the thread that accepts for them.
-ghost use Rattle.std.specs.Prelude.{◌≡◌, IfErr, IfOk, false, length, true};
+ghost use Rattle.std.specs.Prelude.{◌≡◌, IfErr, false, length, true};
 ghost use Rattle.tko_server.specs.Announcing.{IsAnnounced};
 ghost use Rattle.tko_server.specs.Crews.{IsCrewOf};
 ghost use Rattle.tko_server.specs.EventMembers.{AreEventReadyAt};
 ghost use Rattle.tko_server.specs.Members.{AreReadyAt};
-ghost use Rattle.tko_server.specs.Endings.{HasComeTo, IsEnough};
+ghost use Rattle.tko_server.specs.Endings.{HasComeTo};
 ghost use Rattle.tko_server.specs.Runs.{IsAfterOpening, tracker_settings};
+ghost use Rattle.tko_server.specs.ServerRuns.{ServingEnds};
 
 use crate::crew::Crew;
 use crate::ending::{ServedReport, ended_by};
@@ -44,10 +45,8 @@ pub(crate) fn serve_all<
 ) -> (A, Result<ServedReport, ServerRunFault>)
     requires shares { length shares.old ≡ N.tracker.settings.threads }
     requires asked { N.tracker.settings ≡ tracker_settings shared.now.options.now }
-    ensures enough { IfOk result.1 (λ served.
-        IsEnough shared.now.options.now.connections served.accepted) }
-    ensures fault { IfErr result.1 IsAfterOpening }
-    ensures announced { IsAnnounced A.announces A.fails announcement result.0 result.1 }
+    ensures { ServingEnds A.announces A.fails shared.now.options.now.connections announcement
+        result.0 result.1 }
 {
     let Ok(start) = start_of(rt, alloc, shared, desk, shares) else {
         return (announcement, Err(ServerRunFault::Memory));
@@ -71,10 +70,8 @@ fn serve_from<
 ) -> (A, Result<ServedReport, ServerRunFault>)
     requires { IsCrewOf start.crew (λ members. AreReadyAt N.tracker members.items)
         (λ members. AreEventReadyAt N.tracker members.items) }
-    ensures enough { IfOk result.1 (λ served.
-        IsEnough shared.now.options.now.connections served.accepted) }
-    ensures fault { IfErr result.1 IsAfterOpening }
-    ensures announced { IsAnnounced A.announces A.fails announcement result.0 result.1 }
+    ensures { ServingEnds A.announces A.fails shared.now.options.now.connections announcement
+        result.0 result.1 }
 {
     let Start {
         crew,
@@ -94,11 +91,8 @@ fn serve_from<
         move |scope| -> (A, Result<ServedReport, ServerRunFault>)
             requires { IsCrewOf crew (λ members. AreReadyAt N.tracker members.items)
                 (λ members. AreEventReadyAt N.tracker members.items) }
-            ensures enough { IfOk result.1 (λ served.
-                IsEnough options.entry.now.connections served.accepted) }
-            ensures fault { IfErr result.1 IsAfterOpening }
-            ensures announced { IsAnnounced A.announces A.fails announcement
-                result.0 result.1 }
+            ensures { ServingEnds A.announces A.fails options.entry.now.connections
+                announcement result.0 result.1 }
         {
             match crew {
                 Crew::Blocking(members, way) => {
@@ -134,10 +128,8 @@ impl Front {
         started: Result<(Vec<WorkerThread>, W), NoMemory>,
         mut announcement: A,
     ) -> (A, Result<ServedReport, ServerRunFault>)
-        ensures enough { IfOk result.1 (λ served.
-            IsEnough options.now.connections served.accepted) }
-        ensures fault { IfErr result.1 IsAfterOpening }
-        ensures announced { IsAnnounced A.announces A.fails announcement result.0 result.1 }
+        ensures { ServingEnds A.announces A.fails options.now.connections announcement
+            result.0 result.1 }
     {
         let Front {
             first_asks,

@@ -53,7 +53,7 @@ pub(crate) fn start_of<'a, 'o, N: Named, R: IoRuntime>(
         (λ members. start.first_asks.missing ≡ length members.items)
         (λ members. start.first_asks.missing ≡ length members.items)) }
 {
-    let log = Log::another(shared.log)?;
+    let log = Log::another(Some(shared.log))?;
     let meter = log.meter().another()?;
     let room = Room::open(alloc, shared.allotment.clients, meter)?;
     let (crew, first_asks) = match shared.kind {

@@ -10,6 +10,7 @@ use crate::crew::WorkerKind;
 use crate::ending::ServedReport;
 use crate::members::WorkersShared;
 use crate::naming::Naming;
+use crate::running::RunParts;
 use crate::serving::serve_all;
 use crate::{Announce, Ended, Options, Ran, ServerRunFault};
 use std::alloc::Global;
@@ -42,13 +43,10 @@ pub(crate) fn run_with<
 >(
     rt: &R,
     alloc: Global,
-    listener: &TcpListener,
     options: &Options,
-    kind: WorkerKind,
-    log: Option<&Log>,
+    run: RunParts<'_, A>,
     tracker: Tracker,
     passes: Vec<IdlePass>,
-    announcement: A,
 ) -> (A, Result<Ended, Failed>)
     requires named { tracker ≡ N.tracker }
     requires asked { N.tracker.settings ≡ tracker_settings options.now }
@@ -58,21 +56,11 @@ pub(crate) fn run_with<
     ensures enough { IfOk result.1 (λ ended.
         IsEnough options.now.connections ended.accepted) }
     ensures failed { IfErr result.1 (HasRunFailed N.tracker) }
-    ensures announced { IsAnnounced A.announces A.fails announcement result.0
+    ensures announced { IsAnnounced A.announces A.fails run.entry.announcement result.0
         (fault_in result.1) }
 {
     let desk = Desk::<N>::open(passes);
-    let (announcement, served) = serve_over(
-        rt,
-        alloc,
-        listener,
-        options,
-        kind,
-        log,
-        &tracker,
-        &desk,
-        announcement,
-    );
+    let (announcement, served) = serve_over(rt, alloc, options, run, &tracker, &desk);
     let Ok(closed) = close(tracker, desk.end()) else {
         // (a pass is lost only where memory runs out before its worker has ended)
         let fault = unclosed(&served);
@@ -120,13 +108,10 @@ fn serve_over<
 >(
     rt: &R,
     alloc: Global,
-    listener: &TcpListener,
     options: &'o Options,
-    kind: WorkerKind,
-    log: Option<&'o Log>,
+    run: RunParts<'o, A>,
     tracker: &'o Tracker,
     desk: &Desk<N>,
-    announcement: A,
 ) -> (A, Result<(Totals, ServedReport, Ran), ServerRunFault>)
     requires named { tracker.now ≡ N.tracker }
     requires asked { N.tracker.settings ≡ tracker_settings options.now }
@@ -134,8 +119,15 @@ fn serve_over<
     ensures enough { IfOk result.1 (λ served.
         IsEnough options.now.connections served.1.accepted) }
     ensures fault { IfErr result.1 IsAfterOpening }
-    ensures announced { IsAnnounced A.announces A.fails announcement result.0 result.1 }
+    ensures announced { IsAnnounced A.announces A.fails run.entry.announcement
+        result.0 result.1 }
 {
+    let RunParts {
+        listener,
+        kind,
+        log,
+        announcement,
+    } = run;
     let Ok((shared, mut shares)) = shared_by_all::<N, R>(rt, alloc, options, kind, log, tracker)
     else {
         return (announcement, Err(ServerRunFault::Memory));
@@ -179,7 +171,7 @@ fn shared_by_all<
     alloc: Global,
     options: &'o Options,
     kind: WorkerKind,
-    log: Option<&'o Log>,
+    log: &'o Log,
     tracker: &'o Tracker,
 ) -> Result<(WorkersShared<'o, N>, Vec<Share>), NoMemory>
     requires named { tracker.now ≡ N.tracker }
