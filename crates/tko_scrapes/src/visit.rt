@@ -83,7 +83,7 @@ impl PageExchange {
         reader: &mut R,
         writer: &mut W,
     ) -> CallEnd
-        ensures done { (result ≡ Turn.Done) ↔ IsDone (history self.new.connection) }
+        ensures done { (result ≡ CallEnd.Done) ↔ IsDone (history self.new.connection) }
         ensures rests { Rests (config_of self.new.connection) (history self.new.connection) }
         ensures read { (more : List ℕ)
             × Consumes (R.remaining reader.old) (R.remaining reader.new) more
@@ -121,7 +121,7 @@ impl PageExchange {
 
 /// What a call of the system means for a client that is not done.
 pub(crate) fn after(moved: &io::Result<usize>) -> CallEnd
-    ensures { result ≡ Turn.Done → ⊥ }
+    ensures { result ≡ CallEnd.Done → ⊥ }
 {
     match moved {
         Ok(0) => CallEnd::Waits,

@@ -29,7 +29,8 @@ use Rattle.tko_session.specs.declared.step.Progress.{Progress}
 use Rattle.tko_session.specs.declared.step.Step.{Step}
 use Rattle.tko_session.specs.declared.step.Step.TheVariants as step
 use Rattle.tko_session.proofs.FollowingLemmas.{IsOn, IsOnAt, IsOutFor, IsOver, IsPastFor, IsTaken, IsTriedFor, on_item}
-use Rattle.tko_session.proofs.ItemLemmas.{IsAskedAt, IsItem, IsItemAt, asked_went, out_took, past_went, read_went, taken_asked, tried_past}
+use Rattle.tko_session.proofs.ItemLemmas.{asked_went, out_took, past_went, read_went, taken_asked, tried_past}
+use Rattle.tko_session.proofs.ItemStateLemmas.{IsAskedAt, IsItem, IsItemAt}
 
 -- the server that the permission names is the one that the key waits for
 pub sent_to : {H L : Type 0} {servers : Upstream H L} {old new : L} {clear server : ℕ} {request : Request} {result : Result Outcome ExchangeNoMemory} → clear ≡ server

@@ -27,8 +27,9 @@ use Rattle.tko_session.specs.declared.step.Step.{Step}
 use Rattle.tko_session.specs.declared.step.Step.TheVariants as step
 use Rattle.tko_session.specs.Working as work
 use Rattle.tko_session.proofs.ItemCutLemmas.{IsCutAt, request_cut, unasked}
-use Rattle.tko_session.proofs.ItemLemmas.{IsItem, IsOutAt, IsOverAt, IsPastAt, IsRepliedAt, IsTriedAt, refused, replied, undecided}
-use Rattle.tko_session.proofs.TurnLemmas.{answered_fault, answered_open, answered_request, part_cut, part_none}
+use Rattle.tko_session.proofs.ItemStateLemmas.{IsItem, IsOutAt, IsOverAt, IsPastAt, IsRepliedAt, IsTriedAt, refused, replied, undecided}
+use Rattle.tko_session.proofs.AnsweredLemmas.{answered_open, part_cut, part_none}
+use Rattle.tko_session.proofs.ItemAnsweredLemmas.{answered_fault, answered_request}
 
 pub owed_or_not : {owes : Bool} → owes ≡ true → owes ≡ false → ⊥
 owed_or_not owed unowed = cc

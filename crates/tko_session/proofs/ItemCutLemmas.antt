@@ -29,7 +29,7 @@ use Rattle.tko_session.specs.SoFar.{HasJoined, PendingRequest}
 use Rattle.tko_session.specs.Turns.{IsRequestCut}
 use Rattle.tko_session.specs.Turns as turn
 use Rattle.tko_session.specs.Working.{Between}
-use Rattle.tko_session.proofs.ItemLemmas.{IsAskedAt, IsFor, IsOutAt, IsPastAt, IsTakenAt, IsTriedAt}
+use Rattle.tko_session.proofs.ItemStateLemmas.{IsAskedAt, IsFor, IsOutAt, IsPastAt, IsTakenAt, IsTriedAt}
 use Rattle.tko_session.proofs.SoFarLemmas.{of_at}
 
 -- nothing is left of the reply to the item that was dropped

@@ -2,7 +2,6 @@
 use Rattle.std.proofs.Common.{◌≡◌, ℕ, zero, suc, ◌<◌, List, [], ◌∷◌, length, set, refl, sym, ap, subst, arith}
 use mathlib.Core.Option.{some, some-ne-none}
 use lib.ListN.{get_elem?}
-use prog.Atomic.{either}
 use Rattle.atomic_table.proofs.Lists.{set_here}
 use Rattle.atomic_table.specs.Table.{Me, State}
 use Rattle.tko_model.specs.declared.mark.Op.{Op}

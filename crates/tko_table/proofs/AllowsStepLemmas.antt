@@ -1,6 +1,6 @@
 -- What each step on the table owes, from one call and phase to whichever the seat has.
 use Rattle.std.proofs.Common.{◌≡◌, ℕ, ◌+◌, ◌-◌, ◌%◌, ◌^◌, ◌<◌, true, eqb, List, [], ◌∷◌, length, get_or, set, All, refl, sym, ap, ◌∙◌, subst, arith}
-use mathlib.Core.Option.{some, some-ne-none}
+use mathlib.Core.Option.{some}
 use lib.ListN.{get_elem?}
 use prog.Atomic.{either}
 use Rattle.atomic_table.specs.Table.{Allows, keeps}

@@ -1,9 +1,15 @@
 -- The passes of all seats in one list: where a seat's pass stands in it, and the list once that pass has changed.
-use Rattle.std.proofs.Common.{◌≡◌, ℕ, zero, suc, ◌<◌, List, [], ◌∷◌, ◌++◌, length, get_or, set, refl, sym, ap, subst, arith}
+use Rattle.std.proofs.Common.{count_by, ltb, ◌≡◌, ℕ, ◌<◌, cond, List, [], ◌∷◌, ◌++◌, length, get_or, set, All, Some, refl, sym, ap, ◌∙◌, subst, ⊎_elim, arith, length-set, get_or-set_same, get_or-set_other, zero, suc}
+use Rattle.std.proofs.lemmas.Bool.{cases_eq}
+use Rattle.std.proofs.lemmas.List.{get_or-map, length-map}
+use Rattle.std.proofs.lemmas.List.Elements.{All-from_get_or}
 use mathlib.Core.Option.{some, some-injective, some-ne-none}
 use lib.ListN.{get_elem?}
+use Rattle.tko_steps.specs.declared.phase.ThreadState.TheVariants.{NotEnrolled}
+use Rattle.tko_steps.specs.Core.{has_number, drawn_number}
+use Rattle.tko_steps.proofs.ThreadLemmas.{number-once}
 use Rattle.tko_table.specs.declared.pass.PassView.{PassView}
-use Rattle.tko_table.specs.Rule.{joined_passes}
+use Rattle.tko_table.specs.Rule.{joined_passes, states_of}
 
 -- one of these passes, and the list with another one in its place
 pub record IsOneOf (passes : List PassView) (old : PassView) (with_new : PassView → List PassView) : Type 0 where
@@ -50,3 +56,28 @@ one-joined (view ∷ views) zero before after old e =
 one-joined (view ∷ views) (suc id) before after old e =
     one-append view (joined_passes views) old (λ new. joined_passes (set views id (before ++ new ∷ after)))
     (one-joined views id before after old e)
+
+-- a fact of each pass, where one pass has changed, and those of the others may rest on their numbers
+pub each-set : (P Q : PassView → Type 0) (passes : List PassView) (place number enrolled : ℕ) (old new : PassView) → place < length passes
+    → ((d : PassView) → get_or passes place d ≡ old) → drawn_number old.state ≡ Some number
+    → ((at : ℕ) → count_by (has_number at) (states_of passes) ≡ cond (ltb at enrolled) 1 0)
+    → Q new → ((pass : PassView) → (drawn_number pass.state ≡ Some number → ⊥) → P pass → Q pass)
+    → All P passes → All Q (set passes place new)
+each-set P Q passes place number enrolled old new inside stands named each mine others all =
+    let threads = states_of passes in
+    let same_length : length threads ≡ length passes = length-map passes (λ pass. pass.state) in
+    let state_at : (i : ℕ) → i < length passes → get_or threads i NotEnrolled ≡ (get_or passes i old).state =
+    λ i it. get_or-map (λ pass. pass.state) passes i old NotEnrolled it in
+    let mine_at : drawn_number (get_or threads place NotEnrolled) ≡ Some number =
+    ap drawn_number (state_at place inside) ∙ ap (λ (pass : PassView). drawn_number pass.state) (stands old) ∙ named in
+    All-from_get_or Q (set passes place new) old (λ i at.
+    let was : i < length passes = rw length-set at at in
+    ⊎_elim
+    (λ (same : i ≡ place). rw (same, get_or-set_same passes place new old inside) mine)
+    (λ (apart : i ≡ place → ⊥).
+    rw (get_or-set_other passes place i new old apart)
+    (others (get_or passes i old)
+    (λ theirs. apart (number-once threads enrolled place i number each (omega (arith, same_length, inside)) (omega (arith, same_length, was)) mine_at
+    (ap drawn_number (state_at i was) ∙ theirs)))
+    (all i old was)))
+    (cases_eq i place))

@@ -1,8 +1,7 @@
 -- The rule is kept by the step of a call.
-use Rattle.std.proofs.Common.{count_by, ltb, ◌≡◌, ℕ, ◌+◌, ◌<◌, cond, List, [], ◌∷◌, ◌++◌, length, get_or, set, All, Some, refl, sym, ap, ◌∙◌, subst, ⊎_elim, arith, length-set, get_or-set_same, get_or-set_other}
-use Rattle.std.proofs.lemmas.Bool.{cases_eq}
-use Rattle.std.proofs.lemmas.List.{append-nil, append_cancel_left, get_or-map, length-map, map-set}
-use Rattle.std.proofs.lemmas.List.Elements.{All-append, All-tail, All-from_get_or, All-set, All-weaker}
+use Rattle.std.proofs.Common.{◌≡◌, ℕ, ◌+◌, ◌<◌, List, ◌∷◌, ◌++◌, length, set, All, Some, refl, sym, ap, ◌∙◌, subst, ⊎_elim, length-set, get_or-set_same}
+use Rattle.std.proofs.lemmas.List.{append-nil, map-set}
+use Rattle.std.proofs.lemmas.List.Elements.{All-append, All-set, All-weaker}
 use mathlib.Core.Option.{some}
 use lib.ListN.{get_elem?}
 use Rattle.tko_model.specs.Settings.{Settings}
@@ -12,33 +11,32 @@ use Rattle.tko_word.specs.Words.{IsWord}
 use Rattle.tko_steps.specs.declared.phase.Call.{Call}
 use Rattle.tko_steps.specs.declared.phase.Phase.{Phase}
 use Rattle.tko_steps.specs.declared.phase.ThreadState.{ThreadState}
-use Rattle.tko_steps.specs.declared.phase.ThreadState.TheVariants.{NotEnrolled, InCall}
+use Rattle.tko_steps.specs.declared.phase.ThreadState.TheVariants.{InCall}
 use Rattle.tko_steps.specs.declared.table.Decision.{Decision}
 use Rattle.tko_steps.specs.declared.table.Decision.TheVariants.{Goes, Answers}
 use Rattle.tko_steps.specs.declared.table.Observed.{Observed}
 use Rattle.tko_model.specs.declared.mark.Mark.{Mark}
 use Rattle.tko_model.specs.declared.mark.Mark.TheVariants.{Up, Soft, Hard}
-use Rattle.tko_steps.specs.Core.{Shared, after_act, has_number, drawn_number, seen_by, shared_after, thread_at, names, word_at}
+use Rattle.tko_steps.specs.Core.{Shared, after_act, drawn_number, seen_by, shared_after, names, word_at}
 use Rattle.tko_steps.specs.Steps.{owned_after as owned_after_core, place_of}
 use Rattle.tko_steps.proofs.OwnedLemmas.{own-step}
 use Rattle.tko_steps.specs.Steps.{decided_state, is_done}
-use Rattle.tko_steps.specs.Invariant.{IsCore, IsPhase}
+use Rattle.tko_steps.specs.Invariant.{IsCore}
 use Rattle.tko_steps.specs.Table.{action_of, next_of}
 use Rattle.tko_steps.proofs.PhaseStepLemmas.{IsCore-after_act, knows_at}
-use Rattle.tko_steps.proofs.RoomLemmas.{enrolled-le}
-use Rattle.tko_steps.proofs.ThreadLemmas.{number-lt, number-once}
 use Rattle.tko_table.specs.declared.pass.Change.{Change}
 use Rattle.tko_table.specs.declared.pass.PassView.{PassView}
 use Rattle.tko_table.specs.History.{Begins, Replays, change_by, changes_in, made_by}
 use Rattle.tko_table.specs.Passes.{StandsIn, PassOwnsItsMarks, HasItsChanges, pass_after_step, changes_by, decided_after, is_marked_by, mine_after, owns, pending}
-use Rattle.tko_table.specs.Rule.{IsKept, IsPlanned, IsPlannedAt, core_in, health_in, joined_passes, shared_in, states_of}
+use Rattle.tko_table.specs.Rule.{IsKept, IsPlanned, core_in, health_in, joined_passes, shared_in, states_of}
 use Rattle.tko_table.specs.Steps.{Takes}
 use Rattle.tko_table.proofs.AddedChangeLemmas.{made_by-append, sure-from, told-next}
 use Rattle.tko_table.proofs.ThreadChangeLemmas.{changes-drawn, made-changes, other-changes, told-other}
 use Rattle.tko_table.proofs.EffectLemmas.{Effect, IsQuiet, IsWritten, effect-of}
 use Rattle.tko_table.proofs.HistoryLemmas.{Begins-all, Begins-more, Replays-push}
-use Rattle.tko_table.proofs.JoinedLemmas.{IsOneOf, one-joined}
+use Rattle.tko_table.proofs.JoinedLemmas.{IsOneOf, each-set, one-joined}
 use Rattle.tko_table.proofs.OwnedLemmas.{owned-other, owned-own}
+use Rattle.tko_table.proofs.PassInCallLemmas.{IsInCall, begins, call_drawn, drawn_between, inside, knows, mine_before, named, others_between, owned_before, planned, same_settings, stands_in}
 use Rattle.tko_table.proofs.PlanLemmas.{plans-next}
 
 -- ---- each half, once one pass of a list has changed
@@ -47,39 +45,10 @@ number-state_after : (call : Call) (decision : Decision) → drawn_number (decid
 number-state_after call (Goes lost phase) = refl
 number-state_after call (Answers answer) = refl
 
--- a fact of each pass, where one pass has changed, and those of the others may rest on their numbers
-pub each-set : (P Q : PassView → Type 0) (passes : List PassView) (place number enrolled : ℕ) (old new : PassView) → place < length passes
-    → ((d : PassView) → get_or passes place d ≡ old) → drawn_number old.state ≡ Some number
-    → ((at : ℕ) → count_by (has_number at) (states_of passes) ≡ cond (ltb at enrolled) 1 0)
-    → Q new → ((pass : PassView) → (drawn_number pass.state ≡ Some number → ⊥) → P pass → Q pass)
-    → All P passes → All Q (set passes place new)
-each-set P Q passes place number enrolled old new inside stands named each mine others all =
-    let threads = states_of passes in
-    let same_length : length threads ≡ length passes = length-map passes (λ pass. pass.state) in
-    let state_at : (i : ℕ) → i < length passes → get_or threads i NotEnrolled ≡ (get_or passes i old).state =
-    λ i it. get_or-map (λ pass. pass.state) passes i old NotEnrolled it in
-    let mine_at : drawn_number (get_or threads place NotEnrolled) ≡ Some number =
-    ap drawn_number (state_at place inside) ∙ ap (λ (pass : PassView). drawn_number pass.state) (stands old) ∙ named in
-    All-from_get_or Q (set passes place new) old (λ i at.
-    let was : i < length passes = rw length-set at at in
-    ⊎_elim
-    (λ (same : i ≡ place). rw (same, get_or-set_same passes place new old inside) mine)
-    (λ (apart : i ≡ place → ⊥).
-    rw (get_or-set_other passes place i new old apart)
-    (others (get_or passes i old)
-    (λ theirs. apart (number-once threads enrolled place i number each (omega (arith, same_length, inside)) (omega (arith, same_length, was)) mine_at
-    (ap drawn_number (state_at i was) ∙ theirs)))
-    (all i old was)))
-    (cases_eq i place))
-
 names-is : (number : ℕ) (mark : Mark) → is_marked_by (Some number) mark ≡ names mark (Some number)
 names-is number (Up count) = refl
 names-is number (Soft owner) = refl
 names-is number (Hard owner) = refl
-
-All-right_part : (P : Change → Type 0) (one other : List Change) → All P (one ++ other) → All P other
-All-right_part P [] other all = all
-All-right_part P (change ∷ one) other all = All-right_part P one other (All-tail P change (one ++ other) all)
 
 -- ---- the step of a call
 
@@ -88,6 +57,12 @@ module _ (s : Settings) (words new_words : List ℕ) (views : List (List PassVie
     (stands : pass.state ≡ InCall call phase)
     (left : shared_in s new_words ≡ shared_after s (shared_in s words) call.server (action_of call.number phase))
     (valid : All IsWord (health_in s new_words)) where
+  abbrev here : IsInCall s words views id before rest pass call phase
+  here = record { kept = kept; there = there; stands = stands }
+
+  abbrev one : IsOneOf (joined_passes views) pass (λ new. joined_passes (set views id (before ++ new ∷ rest)))
+  one = one-joined views id before rest pass there
+
   abbrev it : Observed
   it = seen_by s (shared_in s words) call.server (action_of call.number phase)
 
@@ -97,25 +72,8 @@ module _ (s : Settings) (words new_words : List ℕ) (views : List (List PassVie
   abbrev pub pass_after : PassView
   pass_after = pass_after_step pass call phase it kept.history
 
-  one : IsOneOf (joined_passes views) pass (λ new. joined_passes (set views id (before ++ new ∷ rest)))
-  one = one-joined views id before rest pass there
-
-  same_settings : pass.settings ≡ s
-  same_settings = subst (λ (at : PassView). at.settings ≡ s) (one.at pass) (kept.core.settings one.place pass one.inside)
-
-  planned : IsPlannedAt s call phase
-  planned =
-      let mine = subst (λ (at : PassView). IsPlanned s at.state) (one.at pass) (kept.told.planned one.place pass one.inside) in
-      subst (IsPlanned s) stands mine
-
-  inside : one.place < length (states_of (joined_passes views))
-  inside = omega (arith, one.inside, length-map (joined_passes views) (λ (at : PassView). at.state))
-
-  stands_in : thread_at (core_in s words (joined_passes views)) one.place ≡ InCall call phase
-  stands_in = get_or-map (λ (at : PassView). at.state) (joined_passes views) one.place pass NotEnrolled one.inside ∙ ap (λ (at : PassView). at.state) (one.at pass) ∙ stands
-
   state_is : pass_after.state ≡ decided_state call (next_of s call phase it)
-  state_is = ap (λ (with_settings : Settings). decided_state call (next_of with_settings call phase it)) same_settings
+  state_is = ap (λ (with_settings : Settings). decided_state call (next_of with_settings call phase it)) (same_settings here)
 
   threads_are : states_of (joined_passes (set views id (before ++ pass_after ∷ rest)))
       ≡ set (states_of (joined_passes views)) one.place (decided_state call (next_of s call phase it))
@@ -129,21 +87,15 @@ module _ (s : Settings) (words new_words : List ℕ) (views : List (List PassVie
 
   core_after : IsCore (core_in s new_words (joined_passes (set views id (before ++ pass_after ∷ rest))))
   core_after =
-      subst IsCore (sym core_is) (IsCore-after_act (core_in s words (joined_passes views)) one.place call kept.core.core inside phase stands_in)
+      subst IsCore (sym core_is) (IsCore-after_act (core_in s words (joined_passes views)) one.place call kept.core.core (inside here) phase (stands_in here))
 
   effect : Effect s call (shared_in s words).servers (shared_in s new_words).servers pass.owned pass_after.owned (changes_by call phase (is_done it))
   effect =
       subst (λ (shared : Shared). Effect s call (shared_in s words).servers shared.servers pass.owned pass_after.owned (changes_by call phase (is_done it)))
-      (sym left) (effect-of (core_in s words (joined_passes views)) one.place call kept.core.core inside pass.owned phase stands_in planned)
-
-  named : drawn_number pass.state ≡ Some call.number
-  named = ap drawn_number stands
+      (sym left) (effect-of (core_in s words (joined_passes views)) one.place call kept.core.core (inside here) pass.owned phase (stands_in here) (planned here))
 
   named_after : drawn_number pass_after.state ≡ Some call.number
   named_after = number-state_after call (next_of pass.settings call phase it)
-
-  owned_before : PassOwnsItsMarks (shared_in s words).servers pass
-  owned_before = subst (PassOwnsItsMarks (shared_in s words).servers) (one.at pass) (kept.core.owned one.place pass one.inside)
 
   -- the owned servers of each pass, by what the step did
   owned_by : Effect s call (shared_in s words).servers (shared_in s new_words).servers pass.owned pass_after.owned (changes_by call phase (is_done it))
@@ -153,18 +105,18 @@ module _ (s : Settings) (words new_words : List ℕ) (views : List (List PassVie
       (λ (quiet : IsQuiet (shared_in s words).servers (shared_in s new_words).servers pass.owned pass_after.owned (changes_by call phase (is_done it))).
       subst (λ servers. All (PassOwnsItsMarks servers) (set (joined_passes views) one.place pass_after)) (sym quiet.same)
       (All-set (PassOwnsItsMarks (shared_in s words).servers) (joined_passes views) one.place pass_after
-      (λ server. ap (λ owned. owns owned server) quiet.kept ∙ owned_before server
-      ∙ ap (λ number. is_marked_by number (server_at (shared_in s words).servers server).mark) (named ∙ sym named_after))
+      (λ server. ap (λ owned. owns owned server) quiet.kept ∙ owned_before here server
+      ∙ ap (λ number. is_marked_by number (server_at (shared_in s words).servers server).mark) (named here ∙ sym named_after))
       kept.core.owned))
       (λ (write : IsWritten s call (shared_in s words).servers (shared_in s new_words).servers pass.owned pass_after.owned (changes_by call phase (is_done it))).
       let servers = (shared_in s words).servers in
       let now : ServerState = record { mark = write.mark; stamp = (server_at servers call.server).stamp + 1 } in
       subst (λ new. All (PassOwnsItsMarks new) (set (joined_passes views) one.place pass_after)) (sym write.wrote)
       (each-set (PassOwnsItsMarks servers) (PassOwnsItsMarks (set servers call.server now)) (joined_passes views) one.place call.number (shared_in s words).enrolled
-      pass pass_after one.inside one.at named kept.core.core.numbers
+      pass pass_after one.inside one.at (named here) kept.core.core.numbers
       (λ server. ap (λ owned. owns owned server) write.gained
       ∙ owned-own servers pass.owned call.server call.number now write.inside write.only
-      (λ at. owned_before at ∙ ap (λ number. is_marked_by number (server_at servers at).mark) named) server
+      (λ at. owned_before here at ∙ ap (λ number. is_marked_by number (server_at servers at).mark) (named here)) server
       ∙ ap (λ number. is_marked_by number (server_at (set servers call.server now) server).mark) (sym named_after))
       (λ other apart owns_its. owned-other servers other.owned call.server call.number (drawn_number other.state) now write.inside write.was write.only apart owns_its)
       kept.core.owned))
@@ -185,16 +137,7 @@ module _ (s : Settings) (words new_words : List ℕ) (views : List (List PassVie
       (Replays-push s kept.history servers (change_by call write.answer) write.mark kept.told.replays write.decides)))
 
   planned_after : IsPlanned s pass_after.state
-  planned_after = subst (IsPlanned s) (sym state_is) (plans-next s call (shared_in s words) phase planned)
-
-  -- the changes of its thread, and of the others
-  knows : IsPhase s call (server_at (shared_in s words).servers call.server) phase
-  knows = (knows_at (core_in s words (joined_passes views)) one.place call kept.core.core inside phase stands_in).2
-
-  mine_before : StandsIn (Some call.number) kept.history pass
-  mine_before =
-      let mine = subst (HasItsChanges kept.history) (one.at pass) (kept.told.mine one.place pass one.inside) in
-      subst (λ drew. StandsIn drew kept.history pass) named mine
+  planned_after = subst (IsPlanned s) (sym state_is) (plans-next s call (shared_in s words) phase (planned here))
 
   abbrev changes : List Change
   changes = changes_by call phase (is_done it)
@@ -204,13 +147,13 @@ module _ (s : Settings) (words new_words : List ℕ) (views : List (List PassVie
 
   told_after : changes_in call.number pass_after.mine ++ pending pass_after.state ≡ made_by call.number history_after
   told_after =
-      let adds = told-next s call pass.mine place_now (shared_in s words) phase planned (sure-from s call (shared_in s words) phase knows) in
+      let adds = told-next s call pass.mine place_now (shared_in s words) phase (planned here) (sure-from s call (shared_in s words) phase (knows here)) in
       let decided : next_of pass.settings call phase it ≡ next_of s call phase it =
-      ap (λ (with_settings : Settings). next_of with_settings call phase it) same_settings in
+      ap (λ (with_settings : Settings). next_of with_settings call phase it) (same_settings here) in
       ap (λ (decision : Decision). changes_in call.number (mine_after pass.mine call decision place_now) ++ pending (decided_state call decision)) decided
       ∙ adds
       ∙ ap (λ (state : ThreadState). (changes_in call.number pass.mine ++ pending state) ++ changes) (sym stands)
-      ∙ ap (λ more. more ++ changes) (sym mine_before.0)
+      ∙ ap (λ more. more ++ changes) (sym (mine_before here).0)
       ∙ ap (λ more. made_by call.number kept.history ++ more) (sym (made-changes call phase (is_done it)))
       ∙ sym (made_by-append call.number kept.history changes)
 
@@ -220,15 +163,11 @@ module _ (s : Settings) (words new_words : List ℕ) (views : List (List PassVie
   mine_each : All (HasItsChanges history_after) (set (joined_passes views) one.place pass_after)
   mine_each =
       each-set (HasItsChanges kept.history) (HasItsChanges history_after) (joined_passes views) one.place call.number (shared_in s words).enrolled
-      pass pass_after one.inside one.at named kept.core.core.numbers mine_now
+      pass pass_after one.inside one.at (named here) kept.core.core.numbers mine_now
       (λ other apart told.
       told-other (drawn_number other.state) kept.history changes other
       (λ number drew. other-changes number call phase (is_done it) (λ same. apart (drew ∙ ap Some (sym same)))) told)
       kept.told.mine
-
-  call_drawn : call.number < (shared_in s words).enrolled
-  call_drawn =
-      number-lt (states_of (joined_passes views)) (shared_in s words).enrolled one.place call.number kept.core.core.numbers inside (ap drawn_number stands_in)
 
   enrolled_same : (shared_in s words).enrolled ≡ (shared_in s new_words).enrolled
   enrolled_same = sym (ap (λ (shared : Shared). shared.enrolled) left)
@@ -237,7 +176,7 @@ module _ (s : Settings) (words new_words : List ℕ) (views : List (List PassVie
   drawn_after =
       subst (λ enrolled. All (λ (change : Change). change.number < enrolled) history_after) enrolled_same
       (All-append (λ (change : Change). change.number < (shared_in s words).enrolled) kept.history changes kept.told.drawn
-      (changes-drawn (shared_in s words).enrolled call phase (is_done it) call_drawn))
+      (changes-drawn (shared_in s words).enrolled call phase (is_done it) (call_drawn here)))
 
   pub act-kept : IsKept s new_words (set views id (before ++ pass_after ∷ rest))
   act-kept =
@@ -248,7 +187,7 @@ module _ (s : Settings) (words new_words : List ℕ) (views : List (List PassVie
           core = core_after;
           owned = subst (All (PassOwnsItsMarks (shared_in s new_words).servers)) (sym to) (owned_by effect);
           settings = subst (All (λ (at : PassView). at.settings ≡ s)) (sym to)
-              (All-set (λ (at : PassView). at.settings ≡ s) (joined_passes views) one.place pass_after same_settings kept.core.settings);
+              (All-set (λ (at : PassView). at.settings ≡ s) (joined_passes views) one.place pass_after (same_settings here) kept.core.settings);
         };
         history = history_after;
         told = record {
@@ -256,7 +195,7 @@ module _ (s : Settings) (words new_words : List ℕ) (views : List (List PassVie
           seen = subst (All (λ (at : PassView). Begins at.seen history_after)) (sym to)
               (All-set (λ (at : PassView). Begins at.seen history_after) (joined_passes views) one.place pass_after (Begins-all history_after)
               (All-weaker (λ (at : PassView). Begins at.seen kept.history) (λ (at : PassView). Begins at.seen history_after)
-              (λ at begins. Begins-more at.seen kept.history (changes_by call phase (is_done it)) begins) (joined_passes views) kept.told.seen));
+              (λ at begun. Begins-more at.seen kept.history (changes_by call phase (is_done it)) begun) (joined_passes views) kept.told.seen));
           planned = subst (All (λ (at : PassView). IsPlanned s at.state)) (sym to)
               (All-set (λ (at : PassView). IsPlanned s at.state) (joined_passes views) one.place pass_after planned_after kept.told.planned);
           drawn = drawn_after;
@@ -264,64 +203,44 @@ module _ (s : Settings) (words new_words : List ℕ) (views : List (List PassVie
         };
       }
 
-  begins : Begins pass.seen kept.history
-  begins = subst (λ (at : PassView). Begins at.seen kept.history) (one.at pass) (kept.told.seen one.place pass one.inside)
-
   owns_after : PassOwnsItsMarks (shared_in s new_words).servers pass_after
   owns_after =
       let inside_after : one.place < length (set (joined_passes views) one.place pass_after) = rw length-set one.inside in
       subst (PassOwnsItsMarks (shared_in s new_words).servers) (get_or-set_same (joined_passes views) one.place pass_after pass one.inside)
       (owned_by effect one.place pass inside_after)
 
-  -- the changes since it looked last are others'
-  others_between : made_by call.number begins.rest ≡ []
-  others_between =
-      let whole : made_by call.number kept.history ≡ made_by call.number pass.seen ++ made_by call.number begins.rest =
-      ap (made_by call.number) begins.is ∙ made_by-append call.number pass.seen begins.rest in
-      append_cancel_left (made_by call.number pass.seen) (made_by call.number begins.rest) []
-      (sym whole ∙ sym mine_before.1 ∙ sym (append-nil (made_by call.number pass.seen)))
-
-  drawn_between : All (λ (change : Change). change.number < pass.settings.threads) begins.rest
-  drawn_between =
-      let le = enrolled-le (core_in s words (joined_passes views)) kept.core.core in
-      let threads = kept.core.core.threads in
-      let all = subst (All (λ (change : Change). change.number < (shared_in s words).enrolled)) begins.is kept.told.drawn in
-      All-weaker (λ (change : Change). change.number < (shared_in s words).enrolled) (λ (change : Change). change.number < pass.settings.threads)
-      (λ change less. omega (arith, less, le, ap (λ (it : Settings). it.threads) same_settings)) begins.rest
-      (All-right_part (λ (change : Change). change.number < (shared_in s words).enrolled) pass.seen begins.rest all)
-
   -- the core's step leaves it the same servers to own
   gained : (server : ℕ) → owns pass_after.owned server
       ≡ owned_after_core s call phase (word_at (shared_in s words) (place_of s call.server (action_of call.number phase))) (owns pass.owned) server
   gained server =
-      let knows = knows_at (core_in s words (joined_passes views)) one.place call kept.core.core inside phase stands_in in
+      let known = knows_at (core_in s words (joined_passes views)) one.place call kept.core.core (inside here) phase (stands_in here) in
       owns_after server ∙ ap (λ number. is_marked_by number (server_at (shared_in s new_words).servers server).mark) named_after
       ∙ names-is call.number (server_at (shared_in s new_words).servers server).mark
       ∙ ap (λ (shared : Shared). names (server_at shared.servers server).mark (Some call.number)) left
-      ∙ sym (own-step s (shared_in s words) call phase knows (owns pass.owned)
-      (λ at. owned_before at ∙ ap (λ number. is_marked_by number (server_at (shared_in s words).servers at).mark) named
+      ∙ sym (own-step s (shared_in s words) call phase known (owns pass.owned)
+      (λ at. owned_before here at ∙ ap (λ number. is_marked_by number (server_at (shared_in s words).servers at).mark) (named here)
       ∙ names-is call.number (server_at (shared_in s words).servers at).mark) server)
 
   pub act-takes : Takes pass call phase it pass_after
   act-takes =
       record {
         core = core_in s words (joined_passes views);
-        is_found = record { is = kept.core.core; settings = sym same_settings; thread = one.place; inside = inside; stands = stands_in };
-        between = begins.rest;
-        found = subst (λ with_settings. Replays with_settings (pass.seen ++ begins.rest) (shared_in s words).servers) (sym same_settings)
-            (subst (λ history. Replays s history (shared_in s words).servers) begins.is kept.told.replays);
-        others = others_between;
-        drawn = drawn_between;
-        reads = ap (λ with_settings. seen_by with_settings (shared_in s words) call.server (action_of call.number phase)) (sym same_settings);
+        is_found = record { is = kept.core.core; settings = sym (same_settings here); thread = one.place; inside = inside here; stands = stands_in here };
+        between = (begins here).rest;
+        found = subst (λ with_settings. Replays with_settings (pass.seen ++ (begins here).rest) (shared_in s words).servers) (sym (same_settings here))
+            (subst (λ history. Replays s history (shared_in s words).servers) (begins here).is kept.told.replays);
+        others = others_between here;
+        drawn = drawn_between here;
+        reads = ap (λ with_settings. seen_by with_settings (shared_in s words) call.server (action_of call.number phase)) (sym (same_settings here));
         left = subst (λ with_settings. Replays with_settings history_after (shared_after with_settings (shared_in s words) call.server (action_of call.number phase)).servers)
-            (sym same_settings)
+            (sym (same_settings here))
             (subst (λ (shared : Shared). Replays s history_after shared.servers) left (replays_by effect));
         own = λ server.
-            owned_before server ∙ ap (λ number. is_marked_by number (server_at (shared_in s words).servers server).mark) named;
+            owned_before here server ∙ ap (λ number. is_marked_by number (server_at (shared_in s words).servers server).mark) (named here);
         gained = subst (λ with_settings. (server : ℕ) →
             owns pass_after.owned server
             ≡ owned_after_core with_settings call phase (word_at (shared_in s words) (place_of with_settings call.server (action_of call.number phase)))
             (owns pass.owned) server)
-            (sym same_settings) gained;
-        knows = ap (pass_after_step pass call phase it) begins.is;
+            (sym (same_settings here)) gained;
+        knows = ap (pass_after_step pass call phase it) (begins here).is;
       }

@@ -15,6 +15,7 @@ pub mod LeadsLemmas
 pub mod OpenLemmas
 pub mod OpeningLemmas
 pub mod OwnedLemmas
+pub mod PassInCallLemmas
 pub mod PlanLemmas
 pub mod SharedLemmas
 pub mod SplitLemmas

@@ -3,7 +3,6 @@ use Rattle.std.proofs.Common.{◌≡◌, ℕ, ◌<◌, ◌≤◌, true, List, �
 use Rattle.std.proofs.lemmas.List.{get_or-map, length-map}
 use mathlib.Core.Option.{some}
 use lib.ListN.{get_elem?}
-use prog.Atomic.{either}
 use Rattle.tko_model.specs.declared.mark.Mark.{Mark}
 use Rattle.tko_model.specs.declared.mark.Mark.TheVariants.{Up, Soft, Hard}
 use Rattle.tko_model.specs.Settings.{Settings}

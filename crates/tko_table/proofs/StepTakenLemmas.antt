@@ -1,8 +1,5 @@
 -- What a caller knows of a step that it took.
 use Rattle.std.proofs.Common.{◌≡◌, true, false, refl, ap, ◌∙◌}
-use mathlib.Core.Option.{some, some-ne-none}
-use lib.ListN.{get_elem?}
-use prog.Atomic.{either}
 use Rattle.tko_steps.specs.declared.phase.Call.{Call}
 use Rattle.tko_steps.specs.declared.phase.Phase.{Phase}
 use Rattle.tko_steps.specs.declared.phase.Phase.TheVariants.{Start}

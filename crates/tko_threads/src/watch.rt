@@ -67,10 +67,10 @@ impl Watch {
         ensures turn { result ≡ turn_at (caught_up self.old now requests) now }
         ensures watch { self.new ≡ after_watch_turn result now (caught_up self.old now requests) }
         // A request gives the client all of its time again, and its round was the last one.
-        ensures served { self.old.requests ≢ requests → result ≡ Turn.Read }
+        ensures served { self.old.requests ≢ requests → result ≡ WatchNext.Read }
         // Between two idle turns stands a read.
-        ensures reads { result ≡ Turn.Idle → self.old.waited ≡ None }
-        ensures unlimited { self.old.limit ≡ 0 → result ≢ Turn.Over }
+        ensures reads { result ≡ WatchNext.Idle → self.old.waited ≡ None }
+        ensures unlimited { self.old.limit ≡ 0 → result ≢ WatchNext.Over }
     {
         self.catch_up(now, requests);
         let turn = self.turn(now);

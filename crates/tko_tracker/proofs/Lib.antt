@@ -1,6 +1,7 @@
 pub mod AddsLemmas
 pub mod ClosingLemmas
 pub mod KnowsLemmas
+pub mod KnowsStartLemmas
 pub mod KnowsStepLemmas
 pub mod LookLemmas
 pub mod OwnedLemmas

@@ -8,8 +8,6 @@ use Rattle.tko_steps.specs.declared.phase.Call.{Call}
 use Rattle.tko_steps.specs.declared.phase.Phase.{Phase}
 use Rattle.tko_steps.specs.declared.phase.Phase.TheVariants.{Start}
 use Rattle.tko_steps.specs.declared.phase.ThreadState.TheVariants.{Idle, InCall}
-use Rattle.tko_steps.specs.declared.table.Observed.TheVariants as seen
-use Rattle.tko_steps.specs.Core.{follows}
 use Rattle.tko_steps.specs.Runs.{OwnStep}
 use Rattle.tko_steps.specs.Steps.{begun_by, in_call}
 use Rattle.tko_table.specs.declared.pass.PassView.{PassView}

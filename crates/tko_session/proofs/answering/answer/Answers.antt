@@ -3,7 +3,7 @@ use Rattle.std.proofs.lemmas.Result.{err_from_is_err_and}
 use Rattle.tko_prober.specs.Probers.{NoneMarked}
 use Rattle.tko_reply.proofs.ReachLemmas.{noted_reach}
 use Rattle.tko_session.specs.SessionState.{snapshot}
-use Rattle.tko_session.proofs.TurnLemmas.{answered_none, answered_append, part_after}
+use Rattle.tko_session.proofs.AnsweredLemmas.{answered_none, answered_append, part_after}
 use Rattle.tko_session.proofs.answering.answer.Goals as goal
 
 pub loop-init : goal.loop-init

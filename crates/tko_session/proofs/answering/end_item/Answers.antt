@@ -1,7 +1,7 @@
 use Rattle.std.proofs.Common.{ap}
 use Rattle.tko_session.proofs.FollowingLemmas.{owed_or_not}
 use Rattle.tko_session.proofs.EventLemmas.{begun_paid, never_short}
-use Rattle.tko_session.proofs.TurnLemmas.{answered_paid}
+use Rattle.tko_session.proofs.PaidLemmas.{answered_paid}
 use Rattle.tko_session.proofs.answering.end_item.Goals as goal
 
 pub returns-then-not-is_quiet-clause-ends : goal.returns-then-not-is_quiet-clause-ends

@@ -4,7 +4,7 @@ use Rattle.std.proofs.lemmas.Result.{err_from_is_err_and}
 use Rattle.tko_session.proofs.EventLemmas.{begun_paid}
 use Rattle.tko_session.specs.SessionState.{SessionState, snapshot}
 use Rattle.tko_session.proofs.ReplyLemmas.{left_over}
-use Rattle.tko_session.proofs.ServedLemmas.{all_of, short_in_items, short_in_round, writer_failed}
+use Rattle.tko_session.proofs.DeliverLemmas.{all_of, short_in_items, short_in_round, writer_failed}
 use Rattle.tko_session.specs.AnswerEnds.{none_waits}
 use Rattle.tko_session.proofs.serving.deliver.Goals as goal
 

@@ -1,6 +1,6 @@
 use Rattle.std.proofs.Common.{refl}
 use Rattle.std.proofs.lemmas.Result.{err_from_is_err_and}
-use Rattle.tko_session.proofs.ServedLemmas.{stopped_at_once}
+use Rattle.tko_session.proofs.StoppedLemmas.{stopped_at_once}
 use Rattle.tko_session.proofs.serving.serve.Goals as goal
 
 pub returns-in_err-buffer-clause-ends : goal.returns-in_err-buffer-clause-ends

@@ -1,7 +1,8 @@
 use Rattle.std.proofs.Common.{ap, Err, ◌∙◌}
 use Rattle.std.proofs.lemmas.Result.{err_from_is_err_and}
 use Rattle.tko_session.specs.SessionState.{fed_state}
-use Rattle.tko_session.proofs.ServedLemmas.{all_append, all_none, not_delivered, not_taken, piece_stopped}
+use Rattle.tko_session.proofs.DeliverLemmas.{not_delivered}
+use Rattle.tko_session.proofs.PieceLemmas.{all_append, all_none, not_taken, piece_stopped}
 use Rattle.tko_session.proofs.serving.serve_piece.Goals as goal
 
 pub returns-in_err-feed-clause-ends : goal.returns-in_err-feed-clause-ends

@@ -1,6 +1,7 @@
 use Rattle.std.proofs.Common.{◌<◌, ◌^◌, ap, refl, ◌∙◌, arith}
 use Rattle.std.proofs.lemmas.Result.{err_from_is_err_and}
-use Rattle.tko_session.proofs.ServedLemmas.{session_stopped, so_far_idle, so_far_none, so_far_more, so_far_read, so_far_reads, served, served_quit, stopped_by_read, stopped_idle}
+use Rattle.tko_session.proofs.ServedLemmas.{so_far_idle, so_far_none, so_far_more, so_far_read, so_far_reads, served, served_quit}
+use Rattle.tko_session.proofs.StoppedLemmas.{session_stopped, stopped_by_read, stopped_idle}
 use Rattle.tko_session.proofs.serving.serve_pieces.Goals as goal
 
 pub loop-init : goal.loop-init
