@@ -1,5 +1,6 @@
 -- A client that is called has one session's life still.
-use Rattle.std.proofs.Common.{◌≡◌, ◌≤◌, ℕ, List, [], ◌++◌, length, take, Option, Some, None, refl, sym, ap, subst, ◌∙◌, append-nil, arith}
+use Rattle.std.proofs.Common.{◌≡◌, ◌≤◌, ℕ, List, [], ◌++◌, length, take, Option, Some, None, refl}
+use Rattle.std.proofs.Common.{sym, ap, subst, ◌∙◌, append-nil, arith}
 use Rattle.std.proofs.lemmas.List.{length-take, take-take}
 use Rattle.tko_pools.specs.Configs.{Configuration}
 use Rattle.tko_reply.specs.Ghosts.{PartsGhosts}
@@ -21,20 +22,27 @@ use Rattle.tko_client.specs.declared.client.ClientStanding.{ClientStanding}
 use Rattle.tko_client.specs.declared.client.ClientStanding.TheVariants as course
 use Rattle.tko_client.specs.declared.client.EventClient.{EventClient}
 use Rattle.tko_client.specs.Answerings.{AreKeysReady, IsIdleWith, IsOwn, MayCallWith, awaited_with}
-use Rattle.tko_client.specs.Clients.{CourseReading, CourseStands, DoesAs, IsReadyAfter, IsReadyOver, bytes_in, client_of}
+use Rattle.tko_client.specs.Clients.{CourseReading, CourseStands, DoesAs, IsReadyAfter, IsReadyOver}
+use Rattle.tko_client.specs.Clients.{bytes_in, client_of}
 use Rattle.tko_client.specs.Steps.{HasStayed}
 use Rattle.tko_client.proofs.LawLemmas.{bytes_out, did}
 
 -- the first bytes of the replies that may be written are those of all that are held
-front_in : (at : Work) (begin : ℕ) (outbox : List ℕ) (count : ℕ) → count ≤ length (outgoing_in at begin outbox)
+front_in : (at : Work) (begin : ℕ) (outbox : List ℕ) (count : ℕ)
+    → count ≤ length (outgoing_in at begin outbox)
     → take count outbox ≡ take count (outgoing_in at begin outbox)
 front_in work.Between begin outbox count within = refl
-front_in (work.Read one) begin outbox count within = sym (take-take count begin outbox (omega (arith, within, length-take begin outbox)))
-front_in (work.Awaits it) begin outbox count within = sym (take-take count begin outbox (omega (arith, within, length-take begin outbox)))
-front_in (work.Ended one) begin outbox count within = sym (take-take count begin outbox (omega (arith, within, length-take begin outbox)))
-front_in work.HandedOver begin outbox count within = sym (take-take count begin outbox (omega (arith, within, length-take begin outbox)))
+front_in (work.Read one) begin outbox count within =
+    sym (take-take count begin outbox (omega (arith, within, length-take begin outbox)))
+front_in (work.Awaits it) begin outbox count within =
+    sym (take-take count begin outbox (omega (arith, within, length-take begin outbox)))
+front_in (work.Ended one) begin outbox count within =
+    sym (take-take count begin outbox (omega (arith, within, length-take begin outbox)))
+front_in work.HandedOver begin outbox count within =
+    sym (take-take count begin outbox (omega (arith, within, length-take begin outbox)))
 
-front_held : (state : SessionState) (count : ℕ) → count ≤ length (outgoing state) → take count state.outbox ≡ take count (outgoing state)
+front_held : (state : SessionState) (count : ℕ) → count ≤ length (outgoing state)
+    → take count state.outbox ≡ take count (outgoing state)
 front_held state count within = front_in state.work state.begin state.outbox count within
 
 -- what the session is at stays so but for the place where its reply begins
@@ -45,7 +53,8 @@ own_still (work.Awaits it) count is = is
 own_still (work.Ended one) count is = is
 own_still work.HandedOver count is = is
 
-keys_still : (config : Configuration) (keys : Option KeysState) (at : Work) (count : ℕ) → AreKeysReady config keys at → AreKeysReady config keys (shifted_work count at)
+keys_still : (config : Configuration) (keys : Option KeysState) (at : Work) (count : ℕ)
+    → AreKeysReady config keys at → AreKeysReady config keys (shifted_work count at)
 keys_still config None at count ready = own_still at count ready
 keys_still config (Some keys) at count ready = (ap (shifted_work count) ready.0, ready.1)
 
@@ -56,11 +65,13 @@ goes_still (work.Awaits it) count is = is
 goes_still (work.Ended one) count is = is
 goes_still work.HandedOver count is = is
 
-idle_still : (keys : Option KeysState) (at : Work) (count : ℕ) → IsIdleWith keys at → IsIdleWith keys (shifted_work count at)
+idle_still : (keys : Option KeysState) (at : Work) (count : ℕ) → IsIdleWith keys at
+    → IsIdleWith keys (shifted_work count at)
 idle_still None at count is = goes_still at count is
 idle_still (Some keys) at count is = is
 
-may_still : (keys : Option KeysState) (at : Work) (count : ℕ) → MayCallWith keys at → MayCallWith keys (shifted_work count at)
+may_still : (keys : Option KeysState) (at : Work) (count : ℕ) → MayCallWith keys at
+    → MayCallWith keys (shifted_work count at)
 may_still None at count is = goes_still at count is
 may_still (Some keys) at count is = is
 
@@ -71,7 +82,8 @@ awaited_still (work.Awaits it) count = refl
 awaited_still (work.Ended one) count = refl
 awaited_still work.HandedOver count = refl
 
-pub waits_still : (keys : Option KeysState) (at : Work) (count : ℕ) → awaited_with keys (shifted_work count at) ≡ awaited_with keys at
+pub waits_still : (keys : Option KeysState) (at : Work) (count : ℕ)
+    → awaited_with keys (shifted_work count at) ≡ awaited_with keys at
 waits_still None at count = ap awaited_one (awaited_still at count)
 waits_still (Some keys) at count = refl
 
@@ -79,9 +91,11 @@ waits_still (Some keys) at count = refl
 abbrev sent_answering : Answering → ℕ → Answering
 sent_answering old count = record old { session = sent_from old.session count }
 
-stands_still : (course : ClientStanding) (old : Answering) (count : ℕ) → CourseStands course old → CourseStands course (sent_answering old count)
+stands_still : (course : ClientStanding) (old : Answering) (count : ℕ) → CourseStands course old
+    → CourseStands course (sent_answering old count)
 stands_still course.Going old count is = may_still old.keys old.session.work count is
-stands_still course.Waits old count is = λ none. is (sym (waits_still old.keys old.session.work count) ∙ none)
+stands_still course.Waits old count is =
+    λ none. is (sym (waits_still old.keys old.session.work count) ∙ none)
 stands_still course.Full old count is = idle_still old.keys old.session.work count is
 stands_still course.NeedsInput old count is = idle_still old.keys old.session.work count is
 stands_still course.Ended old count is = idle_still old.keys old.session.work count is
@@ -90,65 +104,98 @@ stands_still course.TooLong old count is = idle_still old.keys old.session.work 
 stands_still course.Short old count is = idle_still old.keys old.session.work count is
 
 -- a client whose replies were written can be called still
-pub sent_over : (config : Configuration) (old new : EventClient) (count : ℕ) → IsReadyOver config old → new.answering ≡ sent_answering old.answering count
+pub sent_over : (config : Configuration) (old new : EventClient) (count : ℕ)
+    → IsReadyOver config old → new.answering ≡ sent_answering old.answering count
     → IsSessionReady config new.answering.session → new.course ≡ old.course → IsReadyOver config new
 sent_over config old new count over sent ready same =
     let was = old.answering in record {
       answering = record {
         session = ready;
-        keys = subst (λ (it : Answering). AreKeysReady config it.keys it.session.work) (sym sent) (keys_still config was.keys was.session.work count over.answering.keys);
+        keys = subst (λ (it : Answering). AreKeysReady config it.keys it.session.work) (sym sent)
+            (keys_still config was.keys was.session.work count over.answering.keys);
       };
       stands = subst (λ course. CourseStands course new.answering) (sym same)
-          (subst (CourseStands old.course) (sym sent) (stands_still old.course was count over.stands));
+          (subst (CourseStands old.course) (sym sent)
+          (stands_still old.course was count over.stands));
       reading = subst (λ course. CourseReading course new.answering.session.reading) (sym same)
-          (subst (λ (it : Answering). CourseReading old.course it.session.reading) (sym sent) over.reading);
+          (subst (λ (it : Answering). CourseReading old.course it.session.reading)
+          (sym sent) over.reading);
     }
 
 -- a client that has just come
-pub new_ready : (config : Configuration) (plan : KeyPlan) (it : EventClient) → IsReadyOver config it → client_of it ≡ new_client plan → IsReadyAfter config [] [] it
-new_ready config plan it over is = record { over = over; done = []; is = subst (λ c. IsClient config no_life c) (sym is) (begins plan config) }
+pub new_ready : (config : Configuration) (plan : KeyPlan) (it : EventClient) → IsReadyOver config it
+    → client_of it ≡ new_client plan → IsReadyAfter config [] [] it
+new_ready config plan it over is =
+    record {
+      over = over;
+      done = [];
+      is = subst (λ c. IsClient config no_life c) (sym is) (begins plan config);
+    }
 
 module _ {H T C : Type 0} (ghosts : PartsGhosts H (List ℕ) T C) {servers : H → ℕ} where
   -- these bytes came, and these went
-  moved_ready : (item : TalkItem) (old new : EventClient) (before after : Parts H (List ℕ) T C) (came went bytes text : List ℕ) → HasStayed servers before after
-      → IsReadyOver after.config new → DoesAs ghosts item (client_of old, before) (client_of new, after)
+  moved_ready : (item : TalkItem) (old new : EventClient) (before after : Parts H (List ℕ) T C)
+      (came went bytes text : List ℕ) → HasStayed servers before after
+      → IsReadyOver after.config new
+      → DoesAs ghosts item (client_of old, before) (client_of new, after)
       → bytes_in item ≡ bytes → bytes_out item (client_of old) ≡ text
-      → IsReadyAfter before.config came went old → IsReadyAfter after.config (came ++ bytes) (went ++ text) new
+      → IsReadyAfter before.config came went old
+      → IsReadyAfter after.config (came ++ bytes) (went ++ text) new
   moved_ready item old new before after came went bytes text stays over does in_is out_is ready =
       let it : Life = life came went ready.done in
-      let grown = did ghosts before.config it (client_of old, before) (client_of new, after) item refl ready.is does in
-      let from : grown.more.bytes ≡ came ++ bytes = grown.from ∙ ap (λ (w : List ℕ). came ++ w) in_is in
+      let grown = did ghosts before.config it (client_of old, before)
+      (client_of new, after) item refl ready.is does in
+      let from : grown.more.bytes ≡ came ++ bytes =
+      grown.from ∙ ap (λ (w : List ℕ). came ++ w) in_is in
       let to : grown.more.sent ≡ went ++ text = grown.to ∙ ap (λ (w : List ℕ). went ++ w) out_is in
-      let lives : IsClient before.config (life (came ++ bytes) (went ++ text) grown.more.done) (client_of new) =
-      subst (λ (w : List ℕ). IsClient before.config (life w (went ++ text) grown.more.done) (client_of new)) from
-      (subst (λ (w : List ℕ). IsClient before.config (life grown.more.bytes w grown.more.done) (client_of new)) to grown.is) in record {
+      let lives : IsClient before.config (life (came ++ bytes) (went ++ text) grown.more.done)
+      (client_of new) =
+      subst (λ (w : List ℕ). IsClient before.config (life w (went ++ text) grown.more.done)
+      (client_of new)) from
+      (subst (λ (w : List ℕ). IsClient before.config (life grown.more.bytes w grown.more.done)
+      (client_of new)) to grown.is) in record {
         over = over;
         done = grown.more.done;
-        is = subst (λ c. IsClient c (life (came ++ bytes) (went ++ text) grown.more.done) (client_of new)) (sym stays.config) lives;
+        is = subst (λ c. IsClient c (life (came ++ bytes) (went ++ text) grown.more.done)
+            (client_of new)) (sym stays.config) lives;
       }
 
   -- no bytes came or went
-  pub still_ready : (item : TalkItem) (old new : EventClient) (before after : Parts H (List ℕ) T C) (came went : List ℕ) → HasStayed servers before after
-      → IsReadyOver after.config new → DoesAs ghosts item (client_of old, before) (client_of new, after)
+  pub still_ready : (item : TalkItem) (old new : EventClient) (before after : Parts H (List ℕ) T C)
+      (came went : List ℕ) → HasStayed servers before after
+      → IsReadyOver after.config new
+      → DoesAs ghosts item (client_of old, before) (client_of new, after)
       → bytes_in item ≡ [] → bytes_out item (client_of old) ≡ []
       → IsReadyAfter before.config came went old → IsReadyAfter after.config came went new
   still_ready item old new before after came went stays over does in_is out_is ready =
-      let more = moved_ready item old new before after came went [] [] stays over does in_is out_is ready in
+      let more = moved_ready item old new before after came went [] [] stays over does in_is out_is
+      ready in
       subst (λ (w : List ℕ). IsReadyAfter after.config w went new) (append-nil came)
       (subst (λ (w : List ℕ). IsReadyAfter after.config (came ++ []) w new) (append-nil went) more)
 
   -- bytes came
-  pub fed_ready : (bytes : List ℕ) (old new : EventClient) (before after : Parts H (List ℕ) T C) (came went : List ℕ) → HasStayed servers before after
-      → IsReadyOver after.config new → DoesAs ghosts (Fed bytes) (client_of old, before) (client_of new, after)
-      → IsReadyAfter before.config came went old → IsReadyAfter after.config (came ++ bytes) went new
+  pub fed_ready : (bytes : List ℕ) (old new : EventClient) (before after : Parts H (List ℕ) T C)
+      (came went : List ℕ) → HasStayed servers before after
+      → IsReadyOver after.config new
+      → DoesAs ghosts (Fed bytes) (client_of old, before) (client_of new, after)
+      → IsReadyAfter before.config came went old
+      → IsReadyAfter after.config (came ++ bytes) went new
   fed_ready bytes old new before after came went stays over does ready =
       subst (λ (w : List ℕ). IsReadyAfter after.config (came ++ bytes) w new) (append-nil went)
-      (moved_ready (Fed bytes) old new before after came went bytes [] stays over does refl refl ready)
+      (moved_ready (Fed bytes) old new before after came went bytes [] stays over does refl refl
+      ready)
 
   -- replies were written
-  pub sent_ready : (count : ℕ) (old new : EventClient) (before after : Parts H (List ℕ) T C) (came went : List ℕ) → HasStayed servers before after → count ≤ length (outgoing old.answering.session)
-      → IsReadyOver after.config new → DoesAs ghosts (Sent count) (client_of old, before) (client_of new, after)
-      → IsReadyAfter before.config came went old → IsReadyAfter after.config came (went ++ take count (outgoing old.answering.session)) new
+  pub sent_ready : (count : ℕ) (old new : EventClient) (before after : Parts H (List ℕ) T C)
+      (came went : List ℕ) → HasStayed servers before after
+      → count ≤ length (outgoing old.answering.session)
+      → IsReadyOver after.config new
+      → DoesAs ghosts (Sent count) (client_of old, before) (client_of new, after)
+      → IsReadyAfter before.config came went old
+      → IsReadyAfter after.config came (went ++ take count (outgoing old.answering.session)) new
   sent_ready count old new before after came went stays within over does ready =
-      subst (λ (w : List ℕ). IsReadyAfter after.config w (went ++ take count (outgoing old.answering.session)) new) (append-nil came)
-      (moved_ready (Sent count) old new before after came went [] (take count (outgoing old.answering.session)) stays over does refl (front_held old.answering.session count within) ready)
+      subst (λ (w : List ℕ). IsReadyAfter after.config w
+      (went ++ take count (outgoing old.answering.session)) new) (append-nil came)
+      (moved_ready (Sent count) old new before after came went []
+      (take count (outgoing old.answering.session)) stays over does refl
+      (front_held old.answering.session count within) ready)

@@ -14,7 +14,8 @@ use Rattle.tko_client.specs.declared.calls.Went.{Went}
 use Rattle.tko_client.specs.Answerings.{IsAnsweringReady, asked_by, awaited_by_client, client_at}
 use Rattle.tko_client.specs.declared.client.ClientStanding.{ClientStanding}
 use Rattle.tko_client.specs.declared.client.ClientStanding.TheVariants.{Short as CourseShort}
-use Rattle.tko_client.specs.Clients.{CourseReading, CourseStands, HasGone, HasOutcomeTaken, phase_at, stage_of}
+use Rattle.tko_client.specs.Clients.{CourseReading, CourseStands, HasGone, HasOutcomeTaken}
+use Rattle.tko_client.specs.Clients.{phase_at, stage_of}
 use Rattle.tko_client.specs.Keys.{TakesAt}
 use Rattle.tko_client.specs.Steps.{HasStayed, WentReading, WentStands, phase_of, server_asked_in}
 

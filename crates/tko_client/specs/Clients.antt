@@ -1,5 +1,6 @@
 -- A client of an event-driven worker: how it stands, and what each call of it is to its life.
-use Rattle.std.specs.Prelude.{◌≡◌, ◌≢◌, ℕ, Bool, List, [], ◌∷◌, ◌++◌, Some, None, Result, flat_map, take}
+use Rattle.std.specs.Prelude.{◌≡◌, ◌≢◌, ℕ, Bool, List, [], ◌∷◌, ◌++◌, Some, None, Result, flat_map}
+use Rattle.std.specs.Prelude.{take}
 use Rattle.tko_model.specs.Records.{Gains}
 use Rattle.tko_links.specs.declared.links.ExchangeNoMemory.{ExchangeNoMemory}
 use Rattle.tko_links.specs.declared.links.Outcome.{Outcome}
@@ -10,7 +11,8 @@ use Rattle.tko_reply.specs.Standing.{SentKey}
 use Rattle.tko_reply.specs.declared.parts.Parts.{Parts}
 use Rattle.tko_keys.specs.KeysState.{KeySend, KeysState}
 use Rattle.tko_session.specs.Acts.{came_to}
-use Rattle.tko_session.specs.Clients.{ClientPhase, ClientState, IsClient, Life, Open, Over as PhaseOver, Short as PhaseShort, life}
+use Rattle.tko_session.specs.Clients.{ClientPhase, ClientState, IsClient, Life, Open}
+use Rattle.tko_session.specs.Clients.{Over as PhaseOver, Short as PhaseShort, life}
 use Rattle.tko_session.specs.ManyClients.{ActsOn}
 use Rattle.tko_session.specs.Outgoing.{outgoing}
 use Rattle.tko_session.specs.Working as work
@@ -20,9 +22,12 @@ use Rattle.tko_port.specs.declared.talking.SessionStage.{SessionStage}
 use Rattle.tko_port.specs.declared.talking.SessionStage.TheVariants as stage
 use Rattle.tko_client.specs.declared.answering.Answering.{Answering}
 use Rattle.tko_client.specs.declared.client.ClientStanding.{ClientStanding}
-use Rattle.tko_client.specs.declared.client.ClientStanding.TheVariants.{Ended as CourseEnded, Full, Going, NeedsInput, Over, Short, TooLong, Waits}
+use Rattle.tko_client.specs.declared.client.ClientStanding.TheVariants.{Ended as CourseEnded, Full}
+use Rattle.tko_client.specs.declared.client.ClientStanding.TheVariants.{Going, NeedsInput, Over}
+use Rattle.tko_client.specs.declared.client.ClientStanding.TheVariants.{Short, TooLong, Waits}
 use Rattle.tko_client.specs.declared.client.EventClient.{EventClient}
-use Rattle.tko_client.specs.Answerings.{IsAnsweringReady, IsClientIdle, MayCallClient, awaited_by_client, client_at, held_by_client}
+use Rattle.tko_client.specs.Answerings.{IsAnsweringReady, IsClientIdle, MayCallClient}
+use Rattle.tko_client.specs.Answerings.{awaited_by_client, client_at, held_by_client}
 use Rattle.tko_client.specs.Comings.{is_unsent, result_of}
 use Rattle.tko_client.specs.Keys.{IsSendOf, came_by}
 

@@ -1,6 +1,7 @@
 -- Calls for the keys of a request that was handed over, and what is recorded after each, over the
 -- parts that all clients of a worker share.
-use Rattle.std.specs.Prelude.{◌≡◌, ◌≢◌, ◌==◌, ◌+◌, ℕ, Bool, true, false, List, [], ◌∷◌, ◌++◌, None, Option, Some, Result, Ok, Err, IfSome, IsSome}
+use Rattle.std.specs.Prelude.{◌≡◌, ◌≢◌, ◌==◌, ◌+◌, ℕ, Bool, true, false, List, [], ◌∷◌, ◌++◌, None}
+use Rattle.std.specs.Prelude.{Option, Some, Result, Ok, Err, IfSome, IsSome}
 use Rattle.tko_model.specs.Records.{Gains}
 use Rattle.tko_links.specs.declared.links.ExchangeNoMemory.{ExchangeNoMemory}
 use Rattle.tko_links.specs.declared.links.Outcome.{Outcome}
@@ -12,7 +13,8 @@ use Rattle.tko_reply.specs.declared.parts.Parts.{Parts}
 use Rattle.tko_mux.specs.Awaits.{IsAsking, one_asked, one_if, times_due}
 use Rattle.tko_keys.specs.KeysActs.{KeysAct, came_lost, came_parts, key_record}
 use Rattle.tko_keys.specs.KeysDriven.{AreUnderWay, HasStopped, IsUnsent, with_loss}
-use Rattle.tko_keys.specs.KeysState.{DueKey, KeySend, KeySlot, KeysState, asked_last, awaited, first_send}
+use Rattle.tko_keys.specs.KeysState.{DueKey, KeySend, KeySlot, KeysState, asked_last, awaited}
+use Rattle.tko_keys.specs.KeysState.{first_send}
 use Rattle.tko_keys.specs.declared.step.KeyStep.{KeyStep}
 use Rattle.tko_keys.specs.declared.step.KeyStep.TheVariants as step
 use Rattle.tko_client.specs.declared.calls.Went.{Went}

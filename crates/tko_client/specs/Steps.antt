@@ -1,6 +1,7 @@
 -- A call of a client's session, and what is recorded after it, over the parts that all clients of a
 -- worker share.
-use Rattle.std.specs.Prelude.{◌≡◌, ◌≢◌, ℕ, List, [], ◌∷◌, IsSome, Option, Some, None, Ok, length, slice_index}
+use Rattle.std.specs.Prelude.{◌≡◌, ◌≢◌, ℕ, List, [], ◌∷◌, IsSome, Option, Some, None, Ok, length}
+use Rattle.std.specs.Prelude.{slice_index}
 use Rattle.tko_model.specs.Records.{Gains}
 use Rattle.tko_health.specs.declared.health.Health.{Ghosts as HealthGhosts}
 use Rattle.tko_links.specs.declared.links.Outcome.{Outcome}
@@ -12,17 +13,19 @@ use Rattle.tko_reply.specs.declared.trails.Trails.{Ghosts as TrailsGhosts}
 use Rattle.tko_text.specs.Reading.{Never, Reading}
 use Rattle.tko_session.specs.Acts.{IsLoss, IsSessionCall, IsToRecord, came_to, left_after}
 use Rattle.tko_session.specs.Clients.{ClientPhase, Open, Over as PhaseOver, Short as PhaseShort}
-use Rattle.tko_session.specs.Driven.{dropped}
+use Rattle.tko_session.specs.Awaiting.{awaited_in}
+use Rattle.tko_session.specs.Driven.{IsSessionReady, dropped}
 use Rattle.tko_session.specs.SessionState.{SessionState}
-use Rattle.tko_session.specs.Working.{Awaits, Work, request_read_in}
+use Rattle.tko_session.specs.Working.{Awaits, Between, Work, request_read_in}
 use Rattle.tko_session.specs.declared.step.Progress.{Progress}
 use Rattle.tko_session.specs.declared.step.Progress.TheVariants as progress
 use Rattle.tko_session.specs.declared.step.Step.{Step}
 use Rattle.tko_session.specs.declared.step.Step.TheVariants as step
 use Rattle.tko_client.specs.declared.answering.Answering.{Answering}
 use Rattle.tko_client.specs.declared.calls.Went.{Went}
-use Rattle.tko_client.specs.declared.calls.Went.TheVariants.{Asks, NeedsInput, On, Over, Short, TooLong, Waits}
-use Rattle.tko_client.specs.Answerings.{IsClientIdle, MayCallClient, awaited_by_client}
+use Rattle.tko_client.specs.declared.calls.Went.TheVariants.{Asks, NeedsInput, On, Over, Short}
+use Rattle.tko_client.specs.declared.calls.Went.TheVariants.{TooLong, Waits}
+use Rattle.tko_client.specs.Answerings.{IsClientIdle, IsOwn, MayCallClient, awaited_by_client}
 
 -- what the parts of an event-driven worker show to its sessions: the connections are not the
 -- sessions', so a send is seen by its count alone; and no clock is read
@@ -93,6 +96,14 @@ IsOfSession Over = Unit {0}
 IsOfSession TooLong = Unit {0}
 IsOfSession Short = ⊥
 
+-- how a session stands after a call that came to this: it awaits whom that asks, no request of it
+-- was handed over, and after a line that was too long nothing is read
+pub record StandsAfter (went : Went) (session : SessionState) : Type 0 where
+  pub asks : awaited_in session.work ≡ server_asked_in went
+  pub own : IsOwn session.work
+  pub goes : IsOfSession went
+  pub reading : WentReading went session.reading
+
 -- how a client may stand after a call that came to this: where it asks or waits, a request is under
 -- way; where it can go on, it can be called; else no request of it is being asked for
 abbrev pub WentStands : Went → Answering → Type 0
@@ -118,6 +129,13 @@ pub record HasStayed {H T C : Type 0} (servers : H → ℕ) (old new : Parts H (
     pub health : servers new.backend.health ≡ servers old.backend.health
     pub links : length new.backend.links ≡ length old.backend.links
 
+-- what a call leaves of its session and of the parts: it can be called again, and so can each other
+-- session
+pub record IsSessionLeft {H T C : Type 0} (servers : H → ℕ) (session : SessionState)
+    (old new : Parts H (List ℕ) T C) : Type 0 where
+  pub ready : IsSessionReady new.config session
+  pub stays : HasStayed servers old new
+
 -- a session at a moment, and the parts
 abbrev pub AtOver : Type 0 → Type 0 → Type 0 → Type 0
 AtOver H T C = SessionState × Parts H (List ℕ) T C
@@ -135,11 +153,12 @@ module _ {H T C : Type 0} (ghosts : PartsGhosts H (List ℕ) T C) where
     pub call : IsSessionCall old.1.config old.0 done phase new.0
     pub gains : Gains (Interacts ghosts) old.1 done new.1
 
-  -- memory ran out as it did
+  -- memory ran out as it did, and it is at no request
   pub record IsLost (old new : AtOver H T C) : Type 0 where
     pub done : List Interaction
     pub loss : IsLoss old.1.config old.0 done new.0
     pub gains : Gains (Interacts ghosts) old.1 done new.1
+    pub between : new.0.work ≡ Between
 
   -- the session took what came of its send, which was counted before
   pub record IsOutcomeTaken (outcome : Outcome) (phase : ClientPhase) (old new : AtOver H T C)
@@ -150,10 +169,11 @@ module _ {H T C : Type 0} (ghosts : PartsGhosts H (List ℕ) T C) where
     pub call : IsSessionCall old.1.config old.0 (came_to it (Ok outcome) ∷ then) phase new.0
     pub gains : Gains (Interacts ghosts) old.1 then new.1
 
-  -- memory ran out as it did
+  -- memory ran out as it did, and it is at no request
   pub record IsLostTaking (outcome : Outcome) (old new : AtOver H T C) : Type 0 where
     pub it : SentKey
     pub at : old.0.work ≡ Awaits it
     pub then : List Interaction
     pub loss : IsLoss old.1.config old.0 (came_to it (Ok outcome) ∷ then) new.0
     pub gains : Gains (Interacts ghosts) old.1 then new.1
+    pub between : new.0.work ≡ Between

@@ -5,7 +5,9 @@ ghost use Rattle.std.specs.Bool.{OnFalse, OnTrue};
 ghost use Rattle.tko_mux.specs.Awaits.{times_due};
 ghost use Rattle.tko_pools.specs.Configs.{Configuration};
 ghost use Rattle.tko_session.specs.Clients.{Open, new_client};
-ghost use Rattle.tko_client.specs.Answerings.{IsAnsweringReady, IsClientIdle, MayCallClient, asked_by, awaited_by_client, client_at, held_by_client, waited_by};
+ghost use Rattle.tko_client.specs.Answerings.{IsAnsweringReady, IsClientIdle, MayCallClient};
+ghost use Rattle.tko_client.specs.Answerings.{asked_by, awaited_by_client, client_at};
+ghost use Rattle.tko_client.specs.Answerings.{held_by_client, waited_by};
 
 use std::alloc::Global;
 use tko_keys::{KeyPlan, KeysAtOnce};

@@ -1,5 +1,6 @@
 //! What came of a request for keys that were handed over, which takes these on.
-ghost use Rattle.std.specs.Prelude.{◌≡◌, ◌≢◌, ◌<◌, [], false, true, Err, IfSome, IsSome, Ok, length, slice_index};
+ghost use Rattle.std.specs.Prelude.{◌≡◌, ◌≢◌, ◌<◌, [], false, true, Err, IfSome, IsSome, Ok};
+ghost use Rattle.std.specs.Prelude.{length, slice_index};
 ghost use Rattle.tko_links.specs.Links.{is_sent, most_sends};
 ghost use Rattle.tko_pools.specs.Configs.{Configuration};
 ghost use Rattle.tko_keys.specs.KeysDriven.{AreUnderWay};

@@ -3,11 +3,10 @@ ghost use Rattle.std.specs.Prelude.{◌≡◌, IfOk, OnErr, OnOk, length};
 ghost use Rattle.tko_model.specs.Records.{Gains};
 ghost use Rattle.tko_reply.specs.Interactions.{Interacts};
 ghost use Rattle.tko_session.specs.Acts.{recorded_after};
-ghost use Rattle.tko_session.specs.Awaiting.{awaited_in};
 ghost use Rattle.tko_session.specs.Driven.{IsAwaiting, IsSessionReady, MayGoOn};
-ghost use Rattle.tko_session.specs.Working.{Between};
-ghost use Rattle.tko_client.specs.Answerings.{IsOwn};
-ghost use Rattle.tko_client.specs.Steps.{BeganAt, HasStayed, IsLost, IsLostTaking, IsOfSession, IsOutcomeTaken, IsStepped, IsUnrecorded, WentReading, client_ghosts, phase_of, server_asked_in, went_from, went_of};
+ghost use Rattle.tko_client.specs.Steps.{BeganAt, HasStayed, IsLost, IsLostTaking, IsOutcomeTaken};
+ghost use Rattle.tko_client.specs.Steps.{IsSessionLeft, IsStepped, IsUnrecorded, StandsAfter};
+ghost use Rattle.tko_client.specs.Steps.{client_ghosts, phase_of, went_from, went_of};
 
 use crate::Sends;
 use std::alloc::Global;
@@ -54,15 +53,10 @@ pub(crate) fn go_once<R: IoRuntime, H: Health, T: Trails, C>(
     requires may { MayGoOn session.old.work }
     ensures ok { IfOk result (λ went. IsStepped (client_ghosts H.Health T.Trails) (phase_of went)
         (session.old, parts.old) (session.new, parts.new)) }
-    ensures asks { IfOk result (λ went. awaited_in session.new.work ≡ server_asked_in went) }
-    ensures own { IfOk result (λ went. IsOwn session.new.work) }
-    ensures goes { IfOk result (λ went. IsOfSession went) }
-    ensures reading { IfOk result (λ went. WentReading went session.new.reading) }
+    ensures stands { IfOk result (λ went. StandsAfter went session.new) }
     ensures err { OnErr result (IsLost (client_ghosts H.Health T.Trails)
         (session.old, parts.old) (session.new, parts.new)) }
-    ensures between { OnErr result (session.new.work ≡ Between) }
-    ensures ready { IsSessionReady parts.new.config session.new }
-    ensures stays { HasStayed H.servers parts.old parts.new }
+    ensures left { IsSessionLeft H.servers session.new parts.old parts.new }
 {
     match session.next(rt, alloc, &mut parts.backend.health, &parts.config) {
         Ok(step) => observe(rt, session, parts, told, step),
@@ -84,15 +78,10 @@ pub(crate) fn take_once<R: IoRuntime, H: Health, T: Trails, C>(
     requires awaits { IsAwaiting session.old.work }
     ensures ok { IfOk result (λ went. IsOutcomeTaken (client_ghosts H.Health T.Trails) outcome
         (phase_of went) (session.old, parts.old) (session.new, parts.new)) }
-    ensures asks { IfOk result (λ went. awaited_in session.new.work ≡ server_asked_in went) }
-    ensures own { IfOk result (λ went. IsOwn session.new.work) }
-    ensures goes { IfOk result (λ went. IsOfSession went) }
-    ensures reading { IfOk result (λ went. WentReading went session.new.reading) }
+    ensures stands { IfOk result (λ went. StandsAfter went session.new) }
     ensures err { OnErr result (IsLostTaking (client_ghosts H.Health T.Trails) outcome
         (session.old, parts.old) (session.new, parts.new)) }
-    ensures between { OnErr result (session.new.work ≡ Between) }
-    ensures ready { IsSessionReady parts.new.config session.new }
-    ensures stays { HasStayed H.servers parts.old parts.new }
+    ensures left { IsSessionLeft H.servers session.new parts.old parts.new }
 {
     match session.answered(rt, &mut parts.backend.health, &parts.config, outcome) {
         Ok(step) => observe(rt, session, parts, told, step),

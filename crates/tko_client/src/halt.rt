@@ -2,7 +2,8 @@
 ghost use Rattle.std.specs.Prelude.{◌≡◌, ◌≢◌, ℕ, List, None};
 ghost use Rattle.tko_text.specs.Reading.{Reading};
 ghost use Rattle.tko_port.specs.Talks.{HasReplies};
-ghost use Rattle.tko_client.specs.Clients.{CourseReading, CourseStands, IsAsked, phase_at, stage_of};
+ghost use Rattle.tko_client.specs.Clients.{CourseReading, CourseStands, IsAsked, phase_at};
+ghost use Rattle.tko_client.specs.Clients.{stage_of};
 ghost use Rattle.tko_client.specs.Steps.{WentReading, WentStands, phase_of, server_asked_in};
 
 use crate::ClientStanding;
@@ -25,7 +26,7 @@ impl Halt {
         ensures stands { WentStands went it.now → CourseStands result.course it.now }
         ensures phase { phase_at result.course ≡ phase_of went }
         ensures asked { result.asked ≡ server_asked_in went }
-        ensures short { result.course ≡ Course.Short → result.asked ≡ None }
+        ensures short { result.course ≡ ClientStanding.Short → result.asked ≡ None }
         ensures reading { (reading : Reading) → WentReading went reading
             → CourseReading result.course reading }
         ensures replies { (output : List ℕ) → HasReplies (stage_of result.course) output }

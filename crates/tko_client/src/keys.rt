@@ -4,7 +4,8 @@ ghost use Rattle.tko_reply.specs.Interactions.{with_noted};
 ghost use Rattle.tko_keys.specs.KeysDriven.{AreUnderWay};
 ghost use Rattle.tko_keys.specs.KeysState.{MayBegin};
 ghost use Rattle.tko_client.specs.Answerings.{AreSettled};
-ghost use Rattle.tko_client.specs.Keys.{HasGoneOn, HasKeyCall, HaveGoneOn, IsDueAfter, IsKeyRecorded};
+ghost use Rattle.tko_client.specs.Keys.{HasGoneOn, HasKeyCall, HaveGoneOn, IsDueAfter};
+ghost use Rattle.tko_client.specs.Keys.{IsKeyRecorded};
 ghost use Rattle.tko_client.specs.Steps.{HasStayed, client_ghosts};
 
 use crate::Sends;

@@ -10,6 +10,10 @@ use tko_keys::{Grouping, KeyPlan};
 use tko_mux::Delivery;
 use tko_pipe::ShutCause;
 
+/// The reply to `get a b c d`, where the value of each key is its name.
+const ABCD: &str =
+    "VALUE a 0 1\r\na\r\nVALUE b 0 1\r\nb\r\nVALUE c 0 1\r\nc\r\nVALUE d 0 1\r\nd\r\nEND\r\n";
+
 /// Each key goes out in a request of its own.
 fn by_key(most: usize) -> KeyPlan {
     KeyPlan {
@@ -116,9 +120,7 @@ fn replies_are_in_the_order_of_the_keys(rt: HostRuntime) -> Result<(), Fail> {
     for (keys_at_once, at_once) in [(1, 2), (2, 4), (4, 8), (100, 8)] {
         let plan = by_key(keys_at_once);
         let (text, most) = replies(&rt, alloc, "get a b c d\r\n", plan, "")?;
-        let one =
-            "VALUE a 0 1\r\na\r\nVALUE b 0 1\r\nb\r\nVALUE c 0 1\r\nc\r\nVALUE d 0 1\r\nd\r\nEND\r\n";
-        let wanted = format!(in alloc; "{one}|{one}|")?;
+        let wanted = format!(in alloc; "{ABCD}|{ABCD}|")?;
         assert_eq!(rt; text.as_str(), wanted.as_str());
         assert_eq!(rt; most, at_once);
     }
@@ -157,9 +159,7 @@ fn keys_go_on_to_the_next_server(rt: HostRuntime) -> Result<(), Fail> {
         let _ = answer(alloc, &mut mux, 1, "")?;
     }
     let text = outputs(alloc, &mut mux)?;
-    let one =
-        "VALUE a 0 1\r\na\r\nVALUE b 0 1\r\nb\r\nVALUE c 0 1\r\nc\r\nVALUE d 0 1\r\nd\r\nEND\r\n";
-    let wanted = format!(in alloc; "{one}|{one}|")?;
+    let wanted = format!(in alloc; "{ABCD}|{ABCD}|")?;
     assert_eq!(rt; text.as_str(), wanted.as_str());
     Ok(())
 }

@@ -1,5 +1,6 @@
 //! How often each server was sent to.
-ghost use Rattle.std.specs.Prelude.{◌≡◌, ◌≢◌, ◌+◌, ◌<◌, ℕ, true, IfOk, length, replicate, slice_index};
+ghost use Rattle.std.specs.Prelude.{◌≡◌, ◌≢◌, ◌+◌, ◌<◌, ℕ, true, IfOk, length, replicate};
+ghost use Rattle.std.specs.Prelude.{slice_index};
 ghost use Rattle.tko_links.specs.Links.{most_sends, part_of};
 
 use std::alloc::Global;

@@ -1,5 +1,6 @@
 //! A client takes what came of a request of it.
-ghost use Rattle.std.specs.Prelude.{◌≡◌, ◌<◌, false, true, Err, IfErr, IfOk, IsOk, IsSome, None, Ok, length};
+ghost use Rattle.std.specs.Prelude.{◌≡◌, ◌<◌, false, true, Err, IfErr, IfOk, IsOk, IsSome, None};
+ghost use Rattle.std.specs.Prelude.{Ok, length};
 ghost use Rattle.tko_links.specs.Links.{is_sent};
 ghost use Rattle.tko_reply.specs.Interactions.{with_noted};
 ghost use Rattle.tko_reply.specs.Standing.{SentKey};

@@ -35,7 +35,8 @@ pub within_line : (line : Option LineState) (count : ℕ) → count ≤ length (
 within_line None count within = tt
 within_line (Some line) count within = within
 
-pub cause_line : (line : Option LineState) (why : ShutCause) → ((pipe : PipeState) → IsCause pipe why)
+pub cause_line : (line : Option LineState) (why : ShutCause)
+    → ((pipe : PipeState) → IsCause pipe why)
     → IfSome line (λ it. (pipe : PipeState) → it.pipe ≡ Some pipe → IsCause pipe why)
 cause_line None why is = tt
 cause_line (Some line) why is = λ pipe same. is pipe

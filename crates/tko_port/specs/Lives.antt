@@ -1,6 +1,6 @@
 -- A session and its port: what was read is what the session was fed, and what was written is what
 -- it sent.
-use Rattle.std.specs.Prelude.{◌≡◌, ℕ, List, ◌++◌}
+use Rattle.std.specs.Prelude.{◌≡◌, ℕ, List, ◌++◌, Option, IfNone, IfSome}
 use Rattle.tko_port.specs.declared.guest.Guest.{Guest}
 use Rattle.tko_port.specs.declared.guest.Presence.{Presence}
 use Rattle.tko_port.specs.declared.guest.Presence.TheVariants.{Here, Leaving}
@@ -38,6 +38,14 @@ ReadyAs ready (AsksMore server) parts port talk = ReadyAt ready parts port talk
 ReadyAs ready Rests parts port talk = ReadyAt ready parts port talk
 ReadyAs ready Spent parts port talk = ReadyAt ready parts port talk
 ReadyAs ready (Ends why) parts port talk = ReadyEnd ready why parts port talk
+
+-- how serving a client once leaves its session and the parts: the session is ready, as what that
+-- came to says, or for more if that is not all; and so is each other session as before
+pub record LeavesReady {P T : Type 0} (is_ready : Readiness P T) (stay : P → P → Type 0)
+    (settled : Option Settled) (old new : P) (port : PortState) (talk : T) : Type 0 where
+  pub ready : IfSome settled (λ it. ReadyAs is_ready it new port talk)
+  pub on : IfNone settled (ReadyAt is_ready new port talk)
+  pub stays : stay old new
 
 -- a client's session: as long as it is served, all that was read came to it; and always all that
 -- was written went from it

@@ -13,6 +13,11 @@ use Rattle.tko_port.specs.Talks.{Talk}
 abbrev pub CannotWrite : List ℕ → PortState → Type 0
 CannotWrite output port = output ≢ [] → port.writable ≡ false
 
+-- a session needs more input, and no reply that waits can be written
+pub record IsToRead (talk : Talk) (port : PortState) : Type 0 where
+  pub needs : talk.stage ≡ NeedsInput
+  pub cannot : CannotWrite talk.output port
+
 -- nothing can be done at this stage, where it awaits these servers: a request of it is under way,
 -- and it waits for what comes of that; its replies must be written first, and cannot be; more is
 -- needed and nothing can be read, and no reply can be written; or it is over but for replies that
@@ -58,3 +63,10 @@ SettledAs (Ends LineTooLong) awaited talk port = (talk.stage ≡ TooLong) × (ta
 SettledAs (Ends Memory) awaited talk port = Unit {0}
 SettledAs (Ends ReadFailed) awaited talk port = Unit {0}
 SettledAs (Ends WriteFailed) awaited talk port = Unit {0}
+
+-- what serving a client came to that asked no server
+pub record SettledAlone (settled : Settled) (awaited : List ℕ) (talk : Talk) (port : PortState)
+    (asks_for : Option Request) : Type 0 where
+  pub ends : SettledAs settled awaited talk port
+  pub asks : asked_as settled ≡ None
+  pub request : HasAsked settled asks_for

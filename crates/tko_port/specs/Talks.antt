@@ -57,6 +57,12 @@ AwaitsAt NeedsInput awaited = awaited ≡ []
 AwaitsAt Over awaited = awaited ≡ []
 AwaitsAt TooLong awaited = awaited ≡ []
 
+-- how a session is between two calls: whom it awaits at its stage, and that it has replies where
+-- they are to be written first
+pub record IsAtStage (talk : Talk) (awaited : List ℕ) : Type 0 where
+  pub stage : AwaitsAt talk.stage awaited
+  pub replies : HasReplies talk.stage talk.output
+
 -- when a session can be called over parts, once these bytes came to it and these went from it
 abbrev pub Readiness : Type 0 → Type 0 → Type 1
 Readiness P T = P → List ℕ → List ℕ → T → Type 0

@@ -8,7 +8,7 @@ use Rattle.tko_pipe.specs.declared.waiter.Waiter.{Waiter}
 use Rattle.tko_pipe.specs.Ends.{ExpireEnds, GotEnds}
 use Rattle.tko_pipe.specs.Pipes.{IsConnected, IsShut, IsWritten, shutting}
 use Rattle.tko_mux.specs.Lines.{IsOnLive, IsOnPipe, LineState, first_on, link_on, unwritten_on}
-use Rattle.tko_mux.specs.Muxes.{IsOnLine}
+use Rattle.tko_mux.specs.Muxes.{HasNoneLeaving, IsOnLine}
 use Rattle.tko_port.specs.declared.port.Read.{Read}
 use Rattle.tko_port.specs.declared.port.Read.TheVariants.{Bytes, Ended, Fault, Nothing}
 use Rattle.tko_port.specs.Ports.{PortState, ReadGives, WriteGives, now_writable}
@@ -27,6 +27,12 @@ unwritten_at (Some line) = unwritten_on line.pipe
 abbrev pub IsOpen : Option LineState → Type 0
 IsOpen None = ⊥
 IsOpen (Some line) = line.ended ≡ None
+
+-- the connection to a server was made, and nobody is left that waited on one that was shut
+pub record IsMade (server : ℕ) (lines : List LineState) : Type 0 where
+  pub within : server < length lines
+  pub link : link_at (slice_get lines server) ≡ Some Connected
+  pub left : HasNoneLeaving (slice_get lines server)
 
 -- a socket is held only once nobody is left of the connection before
 abbrev pub IsHeld : Option PortState → Option LineState → Type 0
@@ -94,10 +100,24 @@ pub data WritesPiece (old : Option PortState) (text : List ℕ) (wrote : Option 
   gave : (was now : PortState) → old ≡ Some was → WriteGives was text wrote now → new ≡ Some now
       → WritesPiece old text wrote new
 
+-- the lines to the other servers stay
+abbrev pub OtherLines : ℕ → List LineState → List LineState → Type 0
+OtherLines server old new =
+    (other : ℕ) → other ≢ server → slice_get new other ≡ slice_get old other
+
 -- the line to a server before and after its connection was shut for this cause
 abbrev pub IsGivenUp : List LineState → ℕ → ShutCause → List LineState → Type 0
 IsGivenUp old server why new =
     IsOnLine (λ was it. IsOnPipe (λ p q. IsShut p (shutting p why) q) was it) old server new
+
+-- the connection to a server was given up for this cause, and its socket with it; the lines to the
+-- other servers stay
+pub record AreGivenUp (server : ℕ) (why : ShutCause) (old new : List LineState)
+    (after : Option PortState) : Type 0 where
+  pub shut : IsGivenUp old server why new
+  pub gone : after ≡ None
+  pub link : link_at (slice_get new server) ≡ None
+  pub others : OtherLines server old new
 
 -- why a connection is shut from which this was read
 abbrev pub IsEndBy : Read → ShutCause → Type 0
@@ -170,8 +190,3 @@ pub data HasWritten (server : ℕ) (old : List LineState) (port : Option PortSta
   failed : (mid : Option PortState)
       → WritesPiece port (unwritten_at (slice_get old server)) None mid
       → IsGivenUp old server cause.Fault new → after ≡ None → HasWritten server old port new after
-
--- the lines to the other servers stay
-abbrev pub OtherLines : ℕ → List LineState → List LineState → Type 0
-OtherLines server old new =
-    (other : ℕ) → other ≢ server → slice_get new other ≡ slice_get old other

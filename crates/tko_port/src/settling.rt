@@ -2,9 +2,9 @@
 ghost use Rattle.std.specs.Prelude.{◌≡◌, ◌<◌, ◌≢◌, [], None, true, IfSome, IfNone, length};
 ghost use Rattle.tko_mux.specs.Awaits.{IsAsking};
 ghost use Rattle.std.specs.Bool.{OnFalse, OnTrue};
-ghost use Rattle.tko_port.specs.Lives.{ReadyAs, ReadyAt};
-ghost use Rattle.tko_port.specs.Rests.{CannotWrite, HasAsked, SettledAs, asked_as};
-ghost use Rattle.tko_port.specs.Talks.{AwaitsAt, HasReplies};
+ghost use Rattle.tko_port.specs.Lives.{LeavesReady, ReadyAs, ReadyAt};
+ghost use Rattle.tko_port.specs.Rests.{CannotWrite, HasAsked, IsToRead, SettledAlone, SettledAs, asked_as};
+ghost use Rattle.tko_port.specs.Talks.{IsAtStage};
 
 use crate::{Port, Read, SessionStage, Talking};
 use tko_model::Clear;
@@ -80,10 +80,8 @@ fn serve<P, L: Port, T: Talking<P>>(
         IsAsking (asked_as settled) (T.awaited talk.old) (T.awaited talk.new)) }
     ensures request { IfSome result (λ settled. HasAsked settled (T.asks_for talk.new)) }
     ensures same { IfNone result (IsAsking None (T.awaited talk.old) (T.awaited talk.new)) }
-    ensures ready { IfSome result (λ settled.
-        ReadyAs T.ready settled parts.new (L.port port.new) talk.new) }
-    ensures on { IfNone result (ReadyAt T.ready parts.new (L.port port.new) talk.new) }
-    ensures stays { T.stays parts.old parts.new }
+    ensures ready { LeavesReady T.ready T.stays result parts.old parts.new (L.port port.new)
+        talk.new }
 {
     match talk.go_on(parts) {
         Ok(Some(clear)) => match talk.stage() {
@@ -103,18 +101,14 @@ fn serve_here<P, L: Port, T: Talking<P>>(
     buffer: &mut [u8],
 ) -> Option<Settled>
     requires ready { ReadyAt T.ready parts.old (L.port port.old) talk.old }
-    requires stage { AwaitsAt (T.talk talk.old).stage (T.awaited talk.old) }
-    requires replies { HasReplies (T.talk talk.old).stage (T.talk talk.old).output }
+    requires stage { IsAtStage (T.talk talk.old) (T.awaited talk.old) }
     requires room { 0 < length buffer.old }
     ensures ends { IfSome result (λ settled.
-        SettledAs settled (T.awaited talk.new) (T.talk talk.new) (L.port port.new)) }
-    ensures asks { IfSome result (λ settled. asked_as settled ≡ None) }
-    ensures request { IfSome result (λ settled. HasAsked settled (T.asks_for talk.new)) }
+        SettledAlone settled (T.awaited talk.new) (T.talk talk.new) (L.port port.new)
+        (T.asks_for talk.new)) }
     ensures same { T.awaited talk.new ≡ T.awaited talk.old }
-    ensures ready { IfSome result (λ settled.
-        ReadyAs T.ready settled parts.new (L.port port.new) talk.new) }
-    ensures on { IfNone result (ReadyAt T.ready parts.new (L.port port.new) talk.new) }
-    ensures stays { T.stays parts.old parts.new }
+    ensures ready { LeavesReady T.ready T.stays result parts.old parts.new (L.port port.new)
+        talk.new }
 {
     if !talk.is_waiting() {
         return serve_idle(port, talk, parts, buffer);
@@ -134,18 +128,14 @@ fn serve_idle<P, L: Port, T: Talking<P>>(
 ) -> Option<Settled>
     requires ready { ReadyAt T.ready parts.old (L.port port.old) talk.old }
     requires here { T.awaited talk.old ≡ [] }
-    requires stage { AwaitsAt (T.talk talk.old).stage (T.awaited talk.old) }
-    requires replies { HasReplies (T.talk talk.old).stage (T.talk talk.old).output }
+    requires stage { IsAtStage (T.talk talk.old) (T.awaited talk.old) }
     requires room { 0 < length buffer.old }
     ensures ends { IfSome result (λ settled.
-        SettledAs settled (T.awaited talk.new) (T.talk talk.new) (L.port port.new)) }
-    ensures asks { IfSome result (λ settled. asked_as settled ≡ None) }
-    ensures request { IfSome result (λ settled. HasAsked settled (T.asks_for talk.new)) }
+        SettledAlone settled (T.awaited talk.new) (T.talk talk.new) (L.port port.new)
+        (T.asks_for talk.new)) }
     ensures here { T.awaited talk.new ≡ [] }
-    ensures ready { IfSome result (λ settled.
-        ReadyAs T.ready settled parts.new (L.port port.new) talk.new) }
-    ensures on { IfNone result (ReadyAt T.ready parts.new (L.port port.new) talk.new) }
-    ensures stays { T.stays parts.old parts.new }
+    ensures ready { LeavesReady T.ready T.stays result parts.old parts.new (L.port port.new)
+        talk.new }
 {
     if can_write::<P, _, _>(port, talk) {
         return write_out(port, talk, parts);
@@ -223,18 +213,14 @@ fn read_in<P, L: Port, T: Talking<P>>(
 ) -> Option<Settled>
     requires ready { ReadyAt T.ready parts.old (L.port port.old) talk.old }
     requires here { T.awaited talk.old ≡ [] }
-    requires needs { (T.talk talk.old).stage ≡ Stage.NeedsInput }
-    requires cannot { CannotWrite (T.talk talk.old).output (L.port port.old) }
+    requires needs { IsToRead (T.talk talk.old) (L.port port.old) }
     requires room { 0 < length buffer.old }
     ensures ends { IfSome result (λ settled.
-        SettledAs settled (T.awaited talk.new) (T.talk talk.new) (L.port port.new)) }
-    ensures asks { IfSome result (λ settled. asked_as settled ≡ None) }
-    ensures request { IfSome result (λ settled. HasAsked settled (T.asks_for talk.new)) }
+        SettledAlone settled (T.awaited talk.new) (T.talk talk.new) (L.port port.new)
+        (T.asks_for talk.new)) }
     ensures here { T.awaited talk.new ≡ [] }
-    ensures ready { IfSome result (λ settled.
-        ReadyAs T.ready settled parts.new (L.port port.new) talk.new) }
-    ensures on { IfNone result (ReadyAt T.ready parts.new (L.port port.new) talk.new) }
-    ensures stays { T.stays parts.old parts.new }
+    ensures ready { LeavesReady T.ready T.stays result parts.old parts.new (L.port port.new)
+        talk.new }
 {
     if !port.is_readable() {
         return Some(Settled::Rests);

@@ -177,7 +177,7 @@ fn is_resting<P, L: Port + Drop, T: Talking<P> + Drop>(
 
 /// Whether a session can do nothing before something comes for one of its requests.
 fn waits<P, T: Talking<P>>(talk: &T) -> bool
-    ensures { OnTrue result ((T.talk talk.now).stage ≡ Stage.Waits) }
+    ensures { OnTrue result ((T.talk talk.now).stage ≡ SessionStage.Waits) }
 {
     talk.stage() == SessionStage::Waits
 }

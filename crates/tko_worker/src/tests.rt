@@ -380,6 +380,26 @@ fn new_port(alloc: Global, input: &[u8]) -> Result<LatePort, Fail> {
     })
 }
 
+/// A worker of one server, and the number of its one client, which asks it.
+fn new_worker(alloc: Global) -> Result<(EventWorker<LatePort, AskTalk, ()>, usize), Fail>
+    ensures { IfOk result (λ it. IsInOrder (
+      ⟦<AskTalk as Talking<()>>⟧.awaited,
+      ⟦<AskTalk as Talking<()>>⟧.talk,
+      ⟦<LatePort as Port>⟧.port,
+    ) ⟦<AskTalk as Talking<()>>⟧.ready it.0.clients) }
+{
+    let shared = SharedParts {
+        parts: (),
+        buffer: vec![in alloc; 0; 4]?,
+    };
+    let Ok(mut worker) = EventWorker::new(alloc, shared, 1, 100) else {
+        return Err("no memory".into());
+    };
+    let port = new_port(alloc, b"".as_slice())?;
+    let number = worker.clients.open(alloc, port, new_asker(alloc)?)?;
+    Ok((worker, number))
+}
+
 /// The end of a turn at a moment: clients are served, and what they ask is written. Returns whether
 /// all rest.
 fn end_turn<P, L: Port + Drop, T: Talking<P> + Drop>(
@@ -397,16 +417,7 @@ fn end_turn<P, L: Port + Drop, T: Talking<P> + Drop>(
 #[test]
 fn a_request_is_written_and_the_response_reaches_its_client(rt: HostRuntime) -> Result<(), Fail> {
     let alloc = rt.alloc();
-    let shared = SharedParts {
-        parts: (),
-        buffer: vec![in alloc; 0; 4]?,
-    };
-    let Ok(mut worker) = EventWorker::new(alloc, shared, 1, 100) else {
-        return Err("no memory".into());
-    };
-    let number = worker
-        .clients
-        .open(alloc, new_port(alloc, b"".as_slice())?, new_asker(alloc)?)?;
+    let (mut worker, number) = new_worker(alloc)?;
     assert!(rt; end_turn(alloc, &mut worker, 1));
     assert!(rt; worker.wants(0));
     assert_eq!(rt; worker.finish(1).due, Some(101));
@@ -430,16 +441,7 @@ fn a_request_is_written_and_the_response_reaches_its_client(rt: HostRuntime) -> 
 #[test]
 fn a_client_whose_server_is_late_is_told_so(rt: HostRuntime) -> Result<(), Fail> {
     let alloc = rt.alloc();
-    let shared = SharedParts {
-        parts: (),
-        buffer: vec![in alloc; 0; 4]?,
-    };
-    let Ok(mut worker) = EventWorker::new(alloc, shared, 1, 100) else {
-        return Err("no memory".into());
-    };
-    worker
-        .clients
-        .open(alloc, new_port(alloc, b"".as_slice())?, new_asker(alloc)?)?;
+    let (mut worker, _) = new_worker(alloc)?;
     assert!(rt; end_turn(alloc, &mut worker, 1));
     assert!(rt; end_turn(alloc, &mut worker, 100));
     assert!(rt; worker.wants(0));
@@ -454,15 +456,7 @@ fn a_client_that_leaves_keeps_its_number_until_its_request_is_done(
     rt: HostRuntime,
 ) -> Result<(), Fail> {
     let alloc = rt.alloc();
-    let shared = SharedParts {
-        parts: (),
-        buffer: vec![in alloc; 0; 4]?,
-    };
-    let Ok(mut worker) = EventWorker::new(alloc, shared, 1, 100) else {
-        return Err("no memory".into());
-    };
-    let port = new_port(alloc, b"".as_slice())?;
-    let number = worker.clients.open(alloc, port, new_asker(alloc)?)?;
+    let (mut worker, number) = new_worker(alloc)?;
     assert!(rt; end_turn(alloc, &mut worker, 1));
     worker.clients.gone(alloc, number, End::WriteFailed);
     assert_eq!(rt; worker.clients.tally(number), None);
@@ -486,17 +480,7 @@ fn a_client_that_leaves_keeps_its_number_until_its_request_is_done(
 #[test]
 fn a_response_does_not_wait_for_the_next_event(rt: HostRuntime) -> Result<(), Fail> {
     let alloc = rt.alloc();
-    let shared = SharedParts {
-        parts: (),
-        buffer: vec![in alloc; 0; 4]?,
-    };
-    let Ok(mut worker) = EventWorker::new(alloc, shared, 1, 100) else {
-        return Err("no memory".into());
-    };
-    let asker = new_asker(alloc)?;
-    let number = worker
-        .clients
-        .open(alloc, new_port(alloc, b"".as_slice())?, asker)?;
+    let (mut worker, number) = new_worker(alloc)?;
     assert!(rt; end_turn(alloc, &mut worker, 1));
     // (as many bytes as are read in one turn, four at a time)
     let mut response = b"VERSION ".as_slice().to_vec(alloc)?;

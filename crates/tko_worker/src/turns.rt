@@ -18,7 +18,7 @@ impl<P, L: Port + Drop, T: Talking<P> + Drop> Worker<L, T, P> {
     /// An event said that a client's port is readable.
     pub fn readable(&mut self, alloc: Global, number: usize)
         requires order { IsInOrder (T.awaited, T.talk, L.port) T.ready self.old }
-        ensures noted { IsNoted (T.awaited, T.talk, L.port) Event.Readable self.old number
+        ensures noted { IsNoted (T.awaited, T.talk, L.port) ClientEvent.Readable self.old number
             self.new }
         ensures acted { HasActed (T.awaited, T.talk, L.port) self.old self.new }
         ensures order { IsInOrder (T.awaited, T.talk, L.port) T.ready self.new }
@@ -29,7 +29,7 @@ impl<P, L: Port + Drop, T: Talking<P> + Drop> Worker<L, T, P> {
     /// An event said that a client's port is writable.
     pub fn writable(&mut self, alloc: Global, number: usize)
         requires order { IsInOrder (T.awaited, T.talk, L.port) T.ready self.old }
-        ensures noted { IsNoted (T.awaited, T.talk, L.port) Event.Writable self.old number
+        ensures noted { IsNoted (T.awaited, T.talk, L.port) ClientEvent.Writable self.old number
             self.new }
         ensures acted { HasActed (T.awaited, T.talk, L.port) self.old self.new }
         ensures order { IsInOrder (T.awaited, T.talk, L.port) T.ready self.new }
@@ -40,7 +40,7 @@ impl<P, L: Port + Drop, T: Talking<P> + Drop> Worker<L, T, P> {
     /// An event said that a client sends no more.
     pub fn ended(&mut self, alloc: Global, number: usize)
         requires order { IsInOrder (T.awaited, T.talk, L.port) T.ready self.old }
-        ensures noted { IsNoted (T.awaited, T.talk, L.port) Event.Ended self.old number
+        ensures noted { IsNoted (T.awaited, T.talk, L.port) ClientEvent.Ended self.old number
             self.new }
         ensures acted { HasActed (T.awaited, T.talk, L.port) self.old self.new }
         ensures order { IsInOrder (T.awaited, T.talk, L.port) T.ready self.new }
@@ -52,7 +52,7 @@ impl<P, L: Port + Drop, T: Talking<P> + Drop> Worker<L, T, P> {
     /// a request of it is under way, it keeps its number until it took what came of that.
     pub fn gone(&mut self, alloc: Global, number: usize, why: End)
         requires order { IsInOrder (T.awaited, T.talk, L.port) T.ready self.old }
-        ensures noted { IsNoted (T.awaited, T.talk, L.port) (Event.Leave why) self.old number
+        ensures noted { IsNoted (T.awaited, T.talk, L.port) (ClientEvent.Leave why) self.old number
             self.new }
         ensures acted { HasActed (T.awaited, T.talk, L.port) self.old self.new }
         ensures order { IsInOrder (T.awaited, T.talk, L.port) T.ready self.new }

@@ -4,7 +4,10 @@ use Rattle.tko_client.specs.Handings.{HasEndedKeys}
 use Rattle.tko_client.specs.Staying.{no_change}
 use Rattle.tko_client.specs.Steps.{client_ghosts}
 use Rattle.tko_client.specs.declared.calls.Went.TheVariants.{Asks, On}
-use Rattle.tko_client.proofs.GoingLemmas.{complete_by, ended_called, is_handed, keys_called, not_waiting, settled}
+use Rattle.tko_client.proofs.KeysStandLemmas.{complete_by, is_handed}
+use Rattle.tko_client.proofs.HandedLemmas.{ended_called}
+use Rattle.tko_client.proofs.CalledLemmas.{keys_called}
+use Rattle.tko_client.proofs.KeysStandLemmas.{not_waiting, settled}
 use Rattle.tko_client.proofs.KeysLemmas.{sent_call}
 use Rattle.tko_client.proofs.going.call_once.Goals as goal
 
@@ -12,24 +15,37 @@ pub returns-in-Some-next_send : goal.returns-in-Some-next_send
 returns-in-Some-next_send g c =
     let ghosts = client_ghosts {C = g.row.C.Denot} g.H.Health g.T.Trails in
     let sent = c.send-sending.ensures in
-    keys_called ghosts g.H.Health.servers (Asks c.send-sending.result.clear) c.args.it.now c.in-Some.keys c.send-sending.new.self c.args.parts.now c.args.parts.now c.requires.ready c.in-Some.is
-    (sent_call ghosts c.in-Some-next_send.server c.send-sending.result.clear c.send-sending.result.short c.in-Some.keys c.send-sending.new.self c.args.parts.now (settled c.requires.ready c.in-Some.is)
-    sent.to sent.sent (sent.ready c.args.parts.now.config (settled c.requires.ready c.in-Some.is).under_way)) no_change
+    keys_called ghosts g.H.Health.servers
+    (Asks c.send-sending.result.clear) c.args.it.now c.in-Some.keys c.send-sending.new.self
+    c.args.parts.now c.args.parts.now c.requires.ready c.in-Some.is
+    (sent_call ghosts c.in-Some-next_send.server c.send-sending.result.clear
+    c.send-sending.result.short c.in-Some.keys c.send-sending.new.self c.args.parts.now
+    (settled c.requires.ready c.in-Some.is)
+    sent.to sent.sent (sent.ready c.args.parts.now.config
+    (settled c.requires.ready c.in-Some.is).under_way)) no_change
 
 pub returns-then-may_begin : goal.returns-then-may_begin
 returns-then-may_begin g c =
-    keys_called (client_ghosts {C = g.row.C.Denot} g.H.Health g.T.Trails) g.H.Health.servers On c.args.it.now c.in-Some.keys c.begin_key.new.keys c.args.parts.now
-    c.begin_key.new.parts c.requires.ready c.in-Some.is c.begin_key.ensures.call c.begin_key.ensures.stays
+    keys_called (client_ghosts {C = g.row.C.Denot} g.H.Health g.T.Trails) g.H.Health.servers On
+    c.args.it.now c.in-Some.keys c.begin_key.new.keys c.args.parts.now
+    c.begin_key.new.parts c.requires.ready c.in-Some.is c.begin_key.ensures.call
+    c.begin_key.ensures.stays
 
 pub returns-else-is_waiting : goal.returns-else-is_waiting
 returns-else-is_waiting g c =
-    let nobody = not_waiting c.in-Some.keys c.is_waiting.result c.is_waiting.ensures c.if-is_waiting.false in
-    ended_called (client_ghosts {C = g.row.C.Denot} g.H.Health g.T.Trails) g.H.Health.servers c.end_keys.result c.args.it.now c.end_keys.new.it c.args.parts.now c.requires.ready
+    let nobody = not_waiting c.in-Some.keys c.is_waiting.result c.is_waiting.ensures
+    c.if-is_waiting.false in
+    ended_called (client_ghosts {C = g.row.C.Denot} g.H.Health g.T.Trails) g.H.Health.servers
+    c.end_keys.result c.args.it.now c.end_keys.new.it c.args.parts.now c.requires.ready
     (record {
       keys = c.in-Some.keys;
       are = c.in-Some.is;
-      complete = complete_by c.in-Some.keys c.next_send.result c.is_waiting.result c.may_begin.result (settled c.requires.ready c.in-Some.is).settled c.next_send.ensures.none c.is_waiting.ensures
+      complete = complete_by c.in-Some.keys c.next_send.result c.is_waiting.result
+          c.may_begin.result (settled c.requires.ready c.in-Some.is).settled
+          c.next_send.ensures.none c.is_waiting.ensures
           c.may_begin.ensures c.in_default.is c.if-is_waiting.false c.if-may_begin.false;
       handed = is_handed c.requires.ready c.in-Some.is;
     }) (ap (λ k. awaited_with k c.args.it.now.session.work) c.in-Some.is ∙ nobody)
-    (subst (λ k. HasEndedKeys c.end_keys.result (record c.args.it.now { keys = k }) c.end_keys.new.it) (sym c.in-Some.is) c.end_keys.ensures)
+    (subst (λ k. HasEndedKeys c.end_keys.result
+    (record c.args.it.now { keys = k }) c.end_keys.new.it)
+    (sym c.in-Some.is) c.end_keys.ensures)

@@ -2,14 +2,16 @@ use Rattle.std.proofs.Common.{◌≡◌, None}
 use Rattle.std.specs.Prelude.{length}
 use Rattle.tko_mux.specs.Awaits.{IsAsking}
 use Rattle.tko_session.specs.Clients.{Open}
-use Rattle.tko_client.specs.Answerings.{IsAnsweringReady, MayCallClient, awaited_by_client, client_at}
+use Rattle.tko_client.specs.Answerings.{IsAnsweringReady, MayCallClient, awaited_by_client}
+use Rattle.tko_client.specs.Answerings.{client_at}
 use Rattle.tko_client.specs.Clients.{HasGone}
 use Rattle.tko_client.specs.Steps.{HasStayed, client_ghosts}
 use Rattle.tko_client.proofs.going.go_on.Given as goal
 
 abbrev pub invariant-loop : goal.invariant-loop
 invariant-loop g l = record {
-  gone : HasGone (client_ghosts {C = g.row.C.Denot} g.H.Health g.T.Trails) (client_at Open l.initial.it, l.initial.parts) (client_at Open l.it, l.parts);
+  gone : HasGone (client_ghosts {C = g.row.C.Denot} g.H.Health g.T.Trails)
+      (client_at Open l.initial.it, l.initial.parts) (client_at Open l.it, l.parts);
   asks : IsAsking None (awaited_by_client l.initial.it) (awaited_by_client l.it);
   stays : HasStayed g.H.Health.servers l.initial.parts l.parts;
   servers : g.H.Health.servers l.parts.backend.health ≡ length l.parts.config.addresses;

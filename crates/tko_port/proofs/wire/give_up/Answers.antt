@@ -1,20 +1,22 @@
+use Rattle.std.proofs.Common.{refl}
 use Rattle.tko_port.proofs.WireLemmas.{cause_line, other_lines, pipe_line, shut_link}
 use Rattle.tko_mux.specs.Muxes.{line_at}
 use Rattle.tko_port.proofs.wire.give_up.Goals as goal
 
 pub shut-requires-clause-pipe : goal.shut-requires-clause-pipe
 shut-requires-clause-pipe g c =
-    pipe_line (line_at c.args.mux.now c.args.server) c.requires.pipe
+    pipe_line (line_at c.args.mux.now c.args.server) c.requires.made.link
 
 pub shut-requires-clause-cause : goal.shut-requires-clause-cause
 shut-requires-clause-cause g c =
     cause_line (line_at c.args.mux.now c.args.server) c.args.cause c.requires.cause
 
-pub returns-clause-link : goal.returns-clause-link
-returns-clause-link g c =
-    shut_link c.args.mux.now.lines c.shut.new.self.lines c.args.server c.args.cause
-    c.shut.ensures.shut
-
-pub returns-clause-others : goal.returns-clause-others
-returns-clause-others g c =
-    other_lines _ c.args.mux.now.lines c.shut.new.self.lines c.args.server c.shut.ensures.shut
+pub returns-clause-shut : goal.returns-clause-shut
+returns-clause-shut g c = record {
+  shut = c.shut.ensures.shut;
+  gone = refl;
+  link = shut_link c.args.mux.now.lines c.shut.new.self.lines c.args.server c.args.cause
+      c.shut.ensures.shut;
+  others = other_lines _ c.args.mux.now.lines c.shut.new.self.lines c.args.server
+      c.shut.ensures.shut;
+}

@@ -14,10 +14,11 @@ returns-in-Bytes-clause-read g c =
 pub returns-in-Ended-clause-read : goal.returns-in-Ended-clause-read
 returns-in-Ended-clause-read g c =
     over c.read_piece.new.buffer read.Ended (option_map g.L.Port.port c.read_piece.new.socket)
-    cause.EndOfInput c.in-Ended.ensures.reads refl c.give_up.ensures.shut c.give_up.ensures.gone
+    cause.EndOfInput c.in-Ended.ensures.reads refl c.give_up.ensures.shut.shut
+    c.give_up.ensures.shut.gone
 
 pub returns-in-Fault-clause-read : goal.returns-in-Fault-clause-read
 returns-in-Fault-clause-read g c =
     over c.read_piece.new.buffer read.Fault (option_map g.L.Port.port c.read_piece.new.socket)
-    cause.Fault c.in-Fault.ensures.reads refl c.give_up-in-Fault.ensures.shut
-    c.give_up-in-Fault.ensures.gone
+    cause.Fault c.in-Fault.ensures.reads refl c.give_up-in-Fault.ensures.shut.shut
+    c.give_up-in-Fault.ensures.shut.gone

@@ -31,4 +31,4 @@ returns-in-None-clause-wrote g c =
     (subst (λ text. WritesPiece (option_map g.L.Port.port c.args.socket.now) text None
     (option_map g.L.Port.port c.write_piece.new.socket)) c.unwritten.ensures
     c.in-None.ensures.writes)
-    c.give_up.ensures.shut c.give_up.ensures.gone
+    c.give_up.ensures.shut.shut c.give_up.ensures.shut.gone

@@ -1,9 +1,11 @@
 use Rattle.tko_client.proofs.ClientLemmas.{request_to_is}
-use Rattle.tko_client.proofs.TakingLemmas.{keys_awaits}
+use Rattle.tko_client.proofs.SentToLemmas.{keys_awaits}
 use Rattle.tko_client.proofs.answering.Answering.request_to.Goals as goal
 
 pub request_to-requires : goal.request_to-requires
-request_to-requires c = keys_awaits c.args.self.now c.in-Some.keys c.args.server c.in-Some.is c.requires
+request_to-requires c = keys_awaits c.args.self.now c.in-Some.keys c.args.server c.in-Some.is
+    c.requires
 
 pub returns-in-None : goal.returns-in-None
-returns-in-None c = request_to_is c.args.self.now c.args.server c.request.result.now c.in-None.is c.requires c.request.ensures
+returns-in-None c = request_to_is c.args.self.now c.args.server c.request.result.now c.in-None.is
+    c.requires c.request.ensures

@@ -8,14 +8,21 @@ use Rattle.tko_client.proofs.client.EventClientTalkingLent.go_on.Goals as goal
 pub returns-in-Short-course-clause-ready : goal.returns-in-Short-course-clause-ready
 returns-in-Short-course-clause-ready g c = λ came went was.
     let halt = c.go_on-halt.ensures in
-    still_ready (client_ghosts {C = g.row.C.Denot} g.H.Health g.T.Trails) (Went None) c.args.self.now _ c.args.lent.now.parts c.go_on-halt.new.parts came went halt.left.stays
-    (record { answering = halt.left.ready; stands = halt.left.stands; reading = halt.left.reading }) (search rules) refl refl was
+    still_ready (client_ghosts {C = g.row.C.Denot} g.H.Health g.T.Trails)
+    (Went None) c.args.self.now _ c.args.lent.now.parts c.go_on-halt.new.parts came went
+    halt.left.stays
+    (record { answering = halt.left.ready; stands = halt.left.stands; reading = halt.left.reading })
+    (search rules) refl refl was
 
 pub returns-in_default-clause-stage : goal.returns-in_default-clause-stage
-returns-in_default-clause-stage g c = stage_awaits c.go_on-halt.result.course c.go_on-halt.new.it c.go_on-halt.ensures.left.stands
+returns-in_default-clause-stage g c =
+    stage_awaits c.go_on-halt.result.course c.go_on-halt.new.it c.go_on-halt.ensures.left.stands
 
 pub returns-in_default-clause-ready : goal.returns-in_default-clause-ready
 returns-in_default-clause-ready g c = λ came went was.
     let halt = c.go_on-halt.ensures in
-    still_ready (client_ghosts {C = g.row.C.Denot} g.H.Health g.T.Trails) (Went None) c.args.self.now _ c.args.lent.now.parts c.go_on-halt.new.parts came went halt.left.stays
-    (record { answering = halt.left.ready; stands = halt.left.stands; reading = halt.left.reading }) (search rules) refl refl was
+    still_ready (client_ghosts {C = g.row.C.Denot} g.H.Health g.T.Trails)
+    (Went None) c.args.self.now _ c.args.lent.now.parts c.go_on-halt.new.parts came went
+    halt.left.stays
+    (record { answering = halt.left.ready; stands = halt.left.stands; reading = halt.left.reading })
+    (search rules) refl refl was

@@ -9,18 +9,23 @@ use Rattle.tko_client.proofs.client.EventClientTalkingLent.sent.Goals as goal
 
 pub returns-clause-does : goal.returns-clause-does
 returns-clause-does g c = (
-  sent_act c.args._lent.now.parts.config (phase_at c.args.self.now.course) c.args.self.now.answering _ c.args.count c.requires.within
+  sent_act c.args._lent.now.parts.config
+      (phase_at c.args.self.now.course) c.args.self.now.answering _ c.args.count c.requires.within
       (ap (λ s. record c.args.self.now.answering { session = s }) c.sent.ensures.sent),
   gains_none c.args._lent.now.parts,
 )
 
 pub returns-clause-output : goal.returns-clause-output
-returns-clause-output g c = sent_left c.args.self.now.answering.session c.sent.new.self c.args.count c.requires.within c.sent.ensures.sent
+returns-clause-output g c =
+    sent_left c.args.self.now.answering.session c.sent.new.self c.args.count c.requires.within
+    c.sent.ensures.sent
 
 pub returns-clause-ready : goal.returns-clause-ready
 returns-clause-ready g c = λ came went was.
-    sent_ready (client_ghosts {C = g.row.C.Denot} g.H.Health g.T.Trails) c.args.count c.args.self.now _ c.args._lent.now.parts c.args._lent.now.parts came went
+    sent_ready (client_ghosts {C = g.row.C.Denot} g.H.Health g.T.Trails) c.args.count
+    c.args.self.now _ c.args._lent.now.parts c.args._lent.now.parts came went
     (no_change {servers = g.H.Health.servers}) c.requires.within
-    (sent_over c.args._lent.now.parts.config c.args.self.now _ c.args.count was.over (ap (λ s. record c.args.self.now.answering { session = s }) c.sent.ensures.sent)
+    (sent_over c.args._lent.now.parts.config c.args.self.now _ c.args.count was.over
+    (ap (λ s. record c.args.self.now.answering { session = s }) c.sent.ensures.sent)
     (c.sent.ensures.ready c.args._lent.now.parts.config was.over.answering.session) refl)
     (returns-clause-does g c) was

@@ -14,8 +14,12 @@ returns-clause-ready g c = λ came went was.
     let halt = c.take-halt.ensures.taken in
     let it = c.args.self.now.answering in
     let new = c.take-halt.new.it in
-    still_ready ghosts (Took c.args.server c.args.came None) c.args.self.now _ c.args.lent.now.parts c.take-halt.new.parts came went halt.left.stays
+    still_ready ghosts (Took c.args.server c.args.came None) c.args.self.now _ c.args.lent.now.parts
+    c.take-halt.new.parts came went halt.left.stays
     (record { answering = halt.left.ready; stands = halt.left.stands; reading = halt.left.reading })
-    (subst (λ p. HasOutcomeTaken ghosts (is_unsent c.args.came) c.args.server (result_of c.args.came) (client_at p it, c.args.lent.now.parts)
-    (client_at (phase_at c.take-halt.result.course) new, c.take-halt.new.parts)) (sym (waits_open c.args.self.now.course it c.args.server was.over.stands c.requires.awaits)) halt.taken)
+    (subst (λ p. HasOutcomeTaken ghosts (is_unsent c.args.came) c.args.server
+    (result_of c.args.came) (client_at p it, c.args.lent.now.parts)
+    (client_at (phase_at c.take-halt.result.course) new, c.take-halt.new.parts))
+    (sym (waits_open c.args.self.now.course it c.args.server was.over.stands c.requires.awaits))
+    halt.taken)
     refl refl was

@@ -1,0 +1,103 @@
+-- What one call is to a client: its session went on, or a call was made for its keys.
+use Rattle.std.proofs.Common.{◌≡◌, ℕ, List, [], ◌∷◌, ◌++◌, Some, None, refl, sym, ap, subst, ◌∙◌}
+use Rattle.tko_model.specs.Records.{Gains}
+use Rattle.tko_model.proofs.RecordLemmas.{gains_append, gains_none, gains_one}
+use Rattle.tko_reply.specs.Ghosts.{PartsGhosts}
+use Rattle.tko_reply.specs.Interactions.{Interaction}
+use Rattle.tko_reply.specs.declared.parts.Parts.{Parts}
+use Rattle.tko_mux.specs.Awaits.{IsAsking}
+use Rattle.tko_keys.specs.KeysState.{KeysState, awaited}
+use Rattle.tko_session.specs.Awaiting.{awaited_in}
+use Rattle.tko_session.specs.Clients.{Open, Short}
+use Rattle.tko_session.specs.Acts as act
+use Rattle.tko_client.specs.declared.answering.Answering.{Answering}
+use Rattle.tko_client.specs.declared.calls.Went.{Went}
+use Rattle.tko_client.specs.Answerings.{IsAnsweringReady, IsClientIdle, awaited_by_client}
+use Rattle.tko_client.specs.Answerings.{awaited_with, client_at}
+use Rattle.tko_client.specs.Calls.{IsCalled}
+use Rattle.tko_client.specs.Clients.{ActsWithoutBytes, ClientOver, HasGone}
+use Rattle.tko_client.specs.Keys.{HasKeyCall}
+use Rattle.tko_client.specs.Steps.{HasStayed, IsLost, IsSessionLeft, IsStepped, StandsAfter}
+use Rattle.tko_client.specs.Steps.{phase_of, server_asked_in}
+use Rattle.tko_client.specs.declared.calls.Went.TheVariants as went
+use Rattle.tko_client.proofs.AskLemmas.{asked_some}
+use Rattle.tko_client.proofs.SessionStandsLemmas.{between_ready, goes_none, idle_none, session_asks}
+use Rattle.tko_client.proofs.SessionStandsLemmas.{session_left, short_left}
+use Rattle.tko_client.proofs.KeysStandLemmas.{handed_at, keys_left, keys_phase}
+
+module _ {H T C : Type 0} (ghosts : PartsGhosts H (List ℕ) T C) where
+  -- nothing was done; or one act
+  pub gone_none : (at : ClientOver H T C) → HasGone ghosts at at
+  gone_none at = record { calls = []; gains = gains_none at }
+
+  pub gone_one : {old new : ClientOver H T C} (done : List Interaction)
+      → ActsWithoutBytes ghosts old.1.config old done new → HasGone ghosts old new
+  gone_one done does = record { calls = done ∷ []; gains = gains_one does }
+
+  pub gone_on : {old mid new : ClientOver H T C} → mid.1.config ≡ old.1.config
+      → HasGone ghosts old mid → HasGone ghosts mid new → HasGone ghosts old new
+  gone_on {old} {mid} {new} config first second = record {
+    calls = first.calls ++ second.calls;
+    gains = gains_append first.gains
+        (subst (λ c. Gains (ActsWithoutBytes ghosts c) mid second.calls new) config second.gains);
+  }
+
+module _ {H T C : Type 0} (ghosts : PartsGhosts H (List ℕ) T C) (servers : H → ℕ) where
+  -- the session went on
+  pub session_called : (came : Went) (old new : Answering) (parts after : Parts H (List ℕ) T C)
+      → IsClientIdle old → new ≡ record old { session = new.session; told = new.told }
+      → IsStepped ghosts (phase_of came) (old.session, parts) (new.session, after)
+      → StandsAfter came new.session → IsSessionLeft servers new.session parts after
+      → IsCalled ghosts servers came (old, parts) (new, after)
+  session_called came old new parts after idle same step stands left =
+      let none = idle_none old idle in
+      let without : new.keys ≡ None = ap (λ (it : Answering). it.keys) same ∙ none.0 in record {
+        gone = gone_one ghosts step.done (
+          act.stepped step.done refl refl step.call (ap (client_at (phase_of came)) same),
+          step.gains,
+        );
+        asks = session_asks old new (server_asked_in came) none.0
+            (goes_none old.session.work none.1) without stands.asks;
+        left = session_left came old new parts after without stands left;
+      }
+
+  -- memory ran out as it did
+  pub session_short : (old new : Answering) (parts after : Parts H (List ℕ) T C) → IsClientIdle old
+      → new ≡ record old { session = new.session; told = new.told }
+      → IsLost ghosts (old.session, parts) (new.session, after) → HasStayed servers parts after
+      → IsCalled ghosts servers went.Short (old, parts) (new, after)
+  session_short old new parts after idle same lost stays =
+      let none = idle_none old idle in
+      let without : new.keys ≡ None = ap (λ (it : Answering). it.keys) same ∙ none.0 in record {
+        gone = gone_one ghosts lost.done
+            (act.lost lost.done refl refl lost.loss (ap (client_at Short) same), lost.gains);
+        asks = session_asks old new None none.0 (goes_none old.session.work none.1) without
+            (ap awaited_in lost.between);
+        left = short_left old new parts after without lost.between
+            (between_ready after.config new.session lost.between) stays;
+      }
+
+  -- a call was made for the keys
+  pub keys_called : (came : Went) (old : Answering) (keys now : KeysState)
+      (parts after : Parts H (List ℕ) T C) → IsAnsweringReady parts.config old
+      → old.keys ≡ Some keys
+      → HasKeyCall ghosts came (keys, parts) (now, after) → HasStayed servers parts after
+      → IsCalled ghosts servers came (old, parts) (record old { keys = Some now }, after)
+  keys_called came old keys now parts after ready are call stays =
+      let at = handed_at ready are in
+      let has : act.HasKeys (client_at Open old) keys =
+      record { going = refl; at = at; are = are } in
+      let asks : IsAsking (server_asked_in came) (awaited_by_client old) (awaited now) =
+      subst (λ k. IsAsking (server_asked_in came) (awaited_with k old.session.work) (awaited now))
+      (sym are) call.asks in record {
+        gone = gone_one ghosts call.done (
+          act.keyed call.done keys now has call.act.0 refl
+              (ap (λ p. client_at p (record old { keys = Some now }))
+              (keys_phase came call.left.goes)),
+          call.act.1,
+        );
+        asks = asks;
+        left = keys_left came old keys now parts parts after ready at refl call.left
+            (λ server is. asked_some server (awaited keys) (awaited now)
+            (subst (λ a. IsAsking a (awaited keys) (awaited now)) is call.asks)) stays;
+      }
