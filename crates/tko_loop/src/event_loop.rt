@@ -174,7 +174,7 @@ impl<P, T: Talking<P> + Drop, K: Drop> EventLoop<T, P, K> {
             self.new.servers.items self.new.worker) }
         ensures round { OnOk result ((before : P) × H.rounds before self.new.moment
             self.new.worker.clients.mux.roster.parts.parts) }
-        ensures over { IfOk result (λ turn. turn ≡ Turn.Over → (number : ℕ)
+        ensures over { IfOk result (λ turn. turn ≡ NextTurn.Over → (number : ℕ)
             → number < length self.new.worker.clients.mux.roster.slots
             → session_at self.new.worker.clients.mux.roster.slots number ≡ None) }
         ensures order { IsInOrder (T.awaited, T.talk, held_port) T.ready self.new.worker.clients }
@@ -333,7 +333,7 @@ impl<P, T: Talking<P> + Drop, K: Drop> EventLoop<T, P, K> {
 
     /// Whether another turn follows.
     fn after(&self, intake: Intake) -> NextTurn
-        ensures { result ≡ Turn.Over → (number : ℕ)
+        ensures { result ≡ NextTurn.Over → (number : ℕ)
             → number < length self.now.worker.clients.mux.roster.slots
             → session_at self.now.worker.clients.mux.roster.slots number ≡ None }
     {

@@ -77,7 +77,7 @@ impl<H: Health, L, C> Backend<H, L, C> {
 /// Gives its result to the probe that is out. Returns what the prober asks for, and the slot of its
 /// server from then on.
 fn take_result(mut prober: Prober, moment: u64, probed: Probed) -> (AfterProbe, ProbeSlot)
-    requires { prober.stage ≡ Stage.Out }
+    requires { prober.stage ≡ ProberStage.Out }
     ensures asked { result.0 ≡ asked_after probed }
     ensures slot { result.1 ≡ slot_after prober moment probed }
 {

@@ -86,7 +86,7 @@ impl Prober {
 
     /// Takes the result of the probe that is out.
     pub fn result(&mut self, now: u64, probed: Probed) -> AfterProbe
-        requires { self.old.stage ≡ Stage.Out }
+        requires { self.old.stage ≡ ProberStage.Out }
         ensures asked { result ≡ asked_after probed }
         ensures state { self.new ≡ with_result self.old now probed }
     {
@@ -123,7 +123,7 @@ impl Prober {
 
     /// Whether a probe is out.
     pub fn is_out(&self) -> bool
-        ensures { IsTrue result ↔ (self.now.stage ≡ Stage.Out) }
+        ensures { IsTrue result ↔ (self.now.stage ≡ ProberStage.Out) }
     {
         matches!(self.stage, ProberStage::Out)
     }
