@@ -2,7 +2,8 @@
 -- one key may stand between two interactions of another, and some keys may share a request to their
 -- server. So each interaction has the place of its key in the request; only the call that records
 -- what came of a shared request has several, directly after what came of it for each of its keys.
-use Rattle.std.specs.Prelude.{◌≡◌, ◌<◌, ◌≤◌, ◌==◌, ℕ, Bool, true, false, List, [], ◌∷◌, ◌++◌, All, Ok, Option, Some, length, flat_map, map, slice_get}
+use Rattle.std.specs.Prelude.{◌≡◌, ◌<◌, ◌≤◌, ◌==◌, ℕ, Bool, true, false, List, [], ◌∷◌, ◌++◌, All}
+use Rattle.std.specs.Prelude.{Ok, Option, Some, length, flat_map, map, slice_get}
 use Rattle.tko_model.specs.declared.mark.Reply.{Reply}
 use Rattle.tko_links.specs.declared.links.Outcome.{Outcome}
 use Rattle.tko_text.specs.declared.request.Request.{Request}

@@ -1,6 +1,7 @@
 -- What one call for the keys of a request, with what its driver records after it, adds to what was
 -- done for the request.
-use Rattle.std.specs.Prelude.{◌≡◌, ◌++◌, List, [], ◌∷◌, ℕ, Bool, Err, Ok, Option, Result, Some, None, flat_map, is_some, map, slice_get}
+use Rattle.std.specs.Prelude.{◌≡◌, ◌++◌, List, [], ◌∷◌, ℕ, Bool, Err, Ok, Option, Result, Some}
+use Rattle.std.specs.Prelude.{None, flat_map, is_some, map, slice_get}
 use Rattle.tko_links.specs.declared.links.ExchangeNoMemory.{ExchangeNoMemory}
 use Rattle.tko_links.specs.declared.links.Outcome.{Outcome}
 use Rattle.tko_pools.specs.Configs.{Configuration}
@@ -11,7 +12,8 @@ use Rattle.tko_reply.specs.TrailEvents.{Tried}
 use Rattle.tko_keys.specs.declared.step.KeyStep.{KeyStep}
 use Rattle.tko_keys.specs.declared.step.KeyStep.TheVariants as step
 use Rattle.tko_keys.specs.AtOnce.{AskedKey}
-use Rattle.tko_keys.specs.KeysDriven.{FirstLost, FirstTaken, HasArrived, HasSent, HasStopped, IsUnsent, NextBegun, NextLost, with_loss}
+use Rattle.tko_keys.specs.KeysDriven.{FirstLost, FirstTaken, HasArrived, HasSent, HasStopped}
+use Rattle.tko_keys.specs.KeysDriven.{IsUnsent, NextBegun, NextLost, with_loss}
 use Rattle.tko_keys.specs.KeysState.{KeySend, KeySlot, KeysState}
 use Rattle.tko_keys.specs.Lines.{key_in_request, outcome_by}
 

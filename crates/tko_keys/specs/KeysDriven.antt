@@ -1,6 +1,8 @@
 -- The keys of a request as a value that is driven: what each of its calls makes of its state, over
 -- the calls of health that it makes.
-use Rattle.std.specs.Prelude.{◌≡◌, ◌≤◌, ◌<◌, ◌+◌, ◌==◌, ◌↔◌, ℕ, Bool, true, false, List, [], ◌∷◌, ◌++◌, All, IsSome, Option, Some, None, count_by, is_some, length, map, slice_get, slice_set, if◌then◌else◌, drop, suc}
+use Rattle.std.specs.Prelude.{◌≡◌, ◌≤◌, ◌<◌, ◌+◌, ◌==◌, ◌↔◌, ℕ, Bool, true, false, List, [], ◌∷◌}
+use Rattle.std.specs.Prelude.{◌++◌, All, IsSome, Option, Some, None, count_by, is_some, length, map}
+use Rattle.std.specs.Prelude.{slice_get, slice_set, if◌then◌else◌, drop, suc}
 use Rattle.tko_model.specs.declared.mark.Reply.{Reply}
 use Rattle.tko_links.specs.declared.links.Outcome.{Outcome}
 use Rattle.tko_pools.specs.Configs.{Configuration}
@@ -15,7 +17,9 @@ use Rattle.tko_keys.specs.declared.plan.Grouping.TheVariants.{ByServer}
 use Rattle.tko_keys.specs.declared.step.KeyStep.{KeyStep}
 use Rattle.tko_keys.specs.declared.step.KeyStep.TheVariants as step
 use Rattle.tko_keys.specs.SlotCalls.{CanGoOn, IsSlotOut, PartDropped, PartTaken, SlotBegun}
-use Rattle.tko_keys.specs.KeysState.{DueKey, KeySend, KeySlot, KeysCame, KeysState, MayBegin, first_send, has_failed, places_out, values_ahead, without_first}
+use Rattle.tko_keys.specs.KeysState.{DueKey, KeySend, KeySlot, KeysCame, KeysState, MayBegin}
+use Rattle.tko_keys.specs.KeysState.{first_send, has_failed, places_out, values_ahead}
+use Rattle.tko_keys.specs.KeysState.{without_first}
 use Rattle.tko_keys.specs.Lines.{AreDistinctKeys, IsLineFull, IsSentBy, Picks, key_at}
 
 abbrev pub due : ℕ → ℕ → DueKey

@@ -1,5 +1,6 @@
 -- How far the keys of a request came, over what was done since it was recorded, place by place.
-use Rattle.std.specs.Prelude.{◌≡◌, ◌<◌, ◌==◌, ℕ, Bool, true, false, List, [], ◌∷◌, ◌++◌, Err, Ok, Option, Some, None, length, map, slice_get}
+use Rattle.std.specs.Prelude.{◌≡◌, ◌<◌, ◌==◌, ℕ, Bool, true, false, List, [], ◌∷◌, ◌++◌, Err, Ok}
+use Rattle.std.specs.Prelude.{Option, Some, None, length, map, slice_get}
 use Rattle.std.specs.List.{list_any}
 use Rattle.tko_model.specs.declared.mark.Reply.{Reply}
 use Rattle.tko_links.specs.declared.links.Outcome.{Outcome}

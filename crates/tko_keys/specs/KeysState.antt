@@ -1,5 +1,7 @@
 -- The keys of one request, of which several may be under way: what contracts see of them.
-use Rattle.std.specs.Prelude.{◌≡◌, ◌≢◌, ◌<◌, ◌+◌, ◌==◌, ℕ, Bool, true, false, not, List, [], ◌∷◌, ◌++◌, Option, Some, None, find, flat_map, length, map, slice_get, All, sum_by, ◌-◌}
+use Rattle.std.specs.Prelude.{◌≡◌, ◌≢◌, ◌<◌, ◌+◌, ◌==◌, ℕ, Bool, true, false, not, List, [], ◌∷◌}
+use Rattle.std.specs.Prelude.{◌++◌, Option, Some, None, find, flat_map, length, map, slice_get, All}
+use Rattle.std.specs.Prelude.{sum_by, ◌-◌}
 use Rattle.std.specs.List.{prefix_len}
 use Rattle.std.specs.Option.{option_and_then, option_map}
 use Rattle.tko_model.specs.declared.mark.Reply.{Reply}
@@ -39,7 +41,7 @@ pub record KeySend : Type 0 where
 -- them, and how many bytes it has at most
 pub record LineSoFar : Type 0 where
   pub others : List ℕ
-  pub line : Request
+  pub request : Request
   pub bytes : ℕ
 
 -- What came of a request: the places of those of its keys that were not taken on; whether a line

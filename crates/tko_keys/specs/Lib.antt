@@ -1,6 +1,6 @@
 pub mod AtOnce
 pub mod FirstKey
-pub mod Groups
+pub mod KeyLines
 pub mod KeysActs
 pub mod KeysDriven
 pub mod KeysSoFar

@@ -1,5 +1,6 @@
 -- Which keys go out in one request, and which part of what came of it each of them has.
-use Rattle.std.specs.Prelude.{◌≡◌, ◌≢◌, ◌<◌, ◌≤◌, ◌+◌, ◌⊎◌, ℕ, Bool, true, false, List, [], ◌∷◌, All, Option, Some, None, length, map, slice_get, sum_by, unwrap_or}
+use Rattle.std.specs.Prelude.{◌≡◌, ◌≢◌, ◌<◌, ◌≤◌, ◌+◌, ◌⊎◌, ℕ, Bool, true, false, List, [], ◌∷◌}
+use Rattle.std.specs.Prelude.{All, Option, Some, None, length, map, slice_get, sum_by, unwrap_or}
 use Rattle.std.specs.Option.{option_map}
 use Rattle.tko_text.specs.Responses.{is_among, part_for}
 use Rattle.tko_text.specs.declared.request.Request.{Request}

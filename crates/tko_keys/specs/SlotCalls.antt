@@ -1,5 +1,6 @@
 -- What the calls of one key among several make of it.
-use Rattle.std.specs.Prelude.{◌≡◌, ◌≢◌, ◌++◌, ◌↔◌, ℕ, true, List, [], IfSome, IsSome, Option, Some, None}
+use Rattle.std.specs.Prelude.{◌≡◌, ◌≢◌, ◌++◌, ◌↔◌, ℕ, true, List, [], IfSome, IsSome, Option, Some}
+use Rattle.std.specs.Prelude.{None}
 use Rattle.tko_text.specs.declared.request.Request.{Request}
 use Rattle.tko_text.specs.SentRequests.{without_noreply}
 use Rattle.tko_links.specs.declared.links.Outcome.{Outcome}

@@ -1,5 +1,6 @@
 //! What came of a request, for its keys.
-ghost use Rattle.std.specs.Prelude.{◌≡◌, ◌≢◌, ◌∷◌, ◌↔◌, ℕ, [], true, IfNone, IfSome, IsTrue, List, MatchOption, Some};
+ghost use Rattle.std.specs.Prelude.{◌≡◌, ◌≢◌, ◌∷◌, ◌↔◌, ℕ, [], true, IfNone, IfSome, IsTrue, List};
+ghost use Rattle.std.specs.Prelude.{MatchOption, Some};
 ghost use Rattle.tko_route.specs.Trail.{op_of};
 ghost use Rattle.tko_keys.specs.KeysDriven.{keys_came_of};
 ghost use Rattle.tko_keys.specs.KeysState.{nothing_came};
@@ -68,10 +69,10 @@ impl Come {
         ensures { result ≡ keys_came_of send outcome reply }
     {
         let first = Some(send.first);
-        match send.group {
-            Some(group) => Come {
+        match send.line {
+            Some(line) => Come {
                 first,
-                others: group.others.into_iter(),
+                others: line.others.into_iter(),
                 shared: true,
                 outcome,
                 reply,

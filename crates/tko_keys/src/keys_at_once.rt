@@ -38,6 +38,8 @@ pub struct KeysAtOnce {
     left: KeysLeft,
     /// The keys that were begun, in the order of the request.
     slots: Vec<Slot>,
+    /// Where the targets of a key are found.
+    found: Vec<usize>,
     /// Those that are due at a server, in the order in which they came there.
     due: VecDeque<Due>,
     /// The requests that are under way, in the order in which they were sent.
@@ -62,7 +64,8 @@ impl Model for KeysAtOnce {
     ghost use Rattle.std.specs.Prelude.{◌≡◌, ◌≤◌, ◌-◌, ◌^◌, length, min};
     ghost use Rattle.std.specs.VecDeque.{deque_capacity};
     ghost use Rattle.tko_keys.specs.FirstKey.{IsAlone, keys_with};
-    ghost use Rattle.tko_keys.specs.KeysState.{HavePlaces, KeysState, bytes_held_in, key_places_in, values_ahead};
+    ghost use Rattle.tko_keys.specs.KeysState.{HavePlaces, KeysState, bytes_held_in, key_places_in};
+    ghost use Rattle.tko_keys.specs.KeysState.{values_ahead};
 
     ghost Value = { KeysState };
 
@@ -101,6 +104,7 @@ impl KeysAtOnce {
             first: Some(request),
             left,
             slots: Vec::with_capacity(alloc, count)?,
+            found: Vec::new(alloc),
             due: VecDeque::from_vec(Vec::with_capacity(alloc, room)?),
             sends: VecDeque::from_vec(Vec::with_capacity(alloc, room)?),
             came: Come::none(alloc),

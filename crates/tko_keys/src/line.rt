@@ -2,10 +2,10 @@
 ghost use Rattle.std.specs.Prelude.{◌≡◌, ◌++◌, ◌∷◌, ℕ, Bool, [], IfOk, IfSome, List, OnErr, OnOk};
 ghost use Rattle.tko_text.specs.Responses.{is_among};
 ghost use Rattle.tko_reply.specs.Answering.{retrieval};
-ghost use Rattle.tko_keys.specs.Groups.{IsGroupFor, Offered};
+ghost use Rattle.tko_keys.specs.KeyLines.{IsKeyLineFor, Offered};
 ghost use Rattle.tko_keys.specs.Lines.{key_in_request};
 
-use crate::under_way::Group;
+use crate::under_way::KeyLine;
 use std::alloc::Global;
 use tko_bytes::NoMemory;
 use tko_text::{Key, Keys, Request};
@@ -16,7 +16,7 @@ const LINE_BOUND: usize = 65_536;
 /// How many bytes of a line are no keys and no spaces before them, at most: `gets`, CR and LF.
 const FRAME: usize = 6;
 
-impl Group {
+impl KeyLine {
     /// A line for one key so far, which is asked for by a request of its own, with room for so
     /// many.
     pub(crate) fn of(
@@ -24,10 +24,10 @@ impl Group {
         unique: bool,
         room: usize,
         request: &Request,
-    ) -> Result<Group, NoMemory>
-        ensures others { IfOk result (λ group. group.others ≡ []) }
-        ensures group { IfOk result (λ group.
-            IsGroupFor unique (key_in_request request.now ∷ []) group) }
+    ) -> Result<KeyLine, NoMemory>
+        ensures others { IfOk result (λ line. line.others ≡ []) }
+        ensures line { IfOk result (λ line.
+            IsKeyLineFor unique (key_in_request request.now ∷ []) line) }
     {
         let Some(key) = key_of(request) else {
             return Err(NoMemory);
@@ -35,9 +35,9 @@ impl Group {
         let bytes = FRAME + 1 + key.as_bytes().len();
         let mut keys = Vec::with_capacity(alloc, room)?;
         keys.push(key.copy(alloc)?)?;
-        Ok(Group {
+        Ok(KeyLine {
             others: Vec::with_capacity(alloc, room)?,
-            line: request_of(unique, Keys::new(keys)),
+            request: request_of(unique, Keys::new(keys)),
             bytes,
         })
     }
@@ -50,7 +50,7 @@ impl Group {
         request: &Request,
     ) -> Result<bool, NoMemory>
         ensures ok { IfOk result (λ took. (unique : Bool) (keys : List (List ℕ))
-            → IsGroupFor unique keys self.old
+            → IsKeyLineFor unique keys self.old
             → Offered took unique keys place (key_in_request request.now) self.old self.new) }
         ensures err { OnErr result (self.new ≡ self.old) }
     {
@@ -58,12 +58,12 @@ impl Group {
             return Err(NoMemory);
         };
         let bytes = self.bytes.saturating_add(key.as_bytes().len() + 1);
-        if bytes > LINE_BOUND || has_key(&self.line, key) {
+        if bytes > LINE_BOUND || has_key(&self.request, key) {
             return Ok(false);
         }
         let key = key.copy(alloc)?;
         self.others.reserve(1)?;
-        push_key(&mut self.line, key)?;
+        push_key(&mut self.request, key)?;
         self.others.push_reserved(place);
         self.bytes = bytes;
         Ok(true)
@@ -93,11 +93,11 @@ pub(crate) fn request_of(unique: bool, keys: Keys) -> Request
 }
 
 /// Whether a request for values has this key.
-fn has_key(line: &Request, key: &Key) -> bool
-    ensures { (keys : List (List ℕ)) (unique : Bool) → line.now ≡ retrieval keys unique
+fn has_key(request: &Request, key: &Key) -> bool
+    ensures { (keys : List (List ℕ)) (unique : Bool) → request.now ≡ retrieval keys unique
         → result ≡ is_among keys key.now }
 {
-    match line {
+    match request {
         Request::Get { keys } => is_among(keys.as_slice(), key),
         Request::Gets { keys } => is_among(keys.as_slice(), key),
         _ => false,
@@ -112,12 +112,12 @@ fn is_among(keys: &[Key], key: &Key) -> bool
 }
 
 /// Puts a key behind those of a request for values.
-fn push_key(line: &mut Request, key: Key) -> Result<(), NoMemory>
+fn push_key(request: &mut Request, key: Key) -> Result<(), NoMemory>
     ensures ok { OnOk result ((keys : List (List ℕ)) (unique : Bool)
-        → line.old ≡ retrieval keys unique → line.new ≡ retrieval (keys ++ key ∷ []) unique) }
-    ensures err { OnErr result (line.new ≡ line.old) }
+        → request.old ≡ retrieval keys unique → request.new ≡ retrieval (keys ++ key ∷ []) unique) }
+    ensures err { OnErr result (request.new ≡ request.old) }
 {
-    match line {
+    match request {
         Request::Get { keys } => keys.push(key),
         Request::Gets { keys } => keys.push(key),
         _ => Err(NoMemory),

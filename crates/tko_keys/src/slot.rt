@@ -1,15 +1,18 @@
 //! One key of a request, from where it is begun to where its response is put into the reply.
-ghost use Rattle.std.specs.Prelude.{◌≡◌, ◌↔◌, ◌++◌, IfErr, IfOk, IsSome, IsTrue, None, OnErr, Some, length};
+ghost use Rattle.std.specs.Prelude.{◌≡◌, ◌↔◌, ◌++◌, IfErr, IfOk, IsSome, IsTrue, None, OnErr, Some};
+ghost use Rattle.std.specs.Prelude.{length};
 ghost use Rattle.tko_route.specs.Routing.{GoesOn, told_of};
 ghost use Rattle.tko_route.specs.Trail.{op_of};
 ghost use Rattle.tko_route.specs.Underway.{Awaited};
 ghost use Rattle.tko_reply.specs.Cuts.{KeyLost};
 ghost use Rattle.tko_keys.specs.KeysState.{has_failed, has_values};
-ghost use Rattle.tko_keys.specs.SlotCalls.{CanGoOn, IsAnyOut, PartDropped, PartTaken, SlotBegun, SlotDropped, SlotTaken, fresh_slot, wait_at};
+ghost use Rattle.tko_keys.specs.SlotCalls.{CanGoOn, IsAnyOut, PartDropped, PartTaken, SlotBegun};
+ghost use Rattle.tko_keys.specs.SlotCalls.{SlotDropped, SlotTaken, fresh_slot, wait_at};
 ghost use Rattle.tko_keys.specs.Steps.{said_by, slot_step};
 
 use crate::come::Come;
 use crate::step::SlotStep;
+use smallvec::SmallVec;
 use std::alloc::Global;
 use std::marker::Model;
 use std::mem::replace;
@@ -26,7 +29,8 @@ use tko_text::Request;
 #[derive(Drop)]
 pub(crate) struct Slot {
     pub key: OneKey,
-    pub targets: Vec<usize>,
+    /// One alone is held in place.
+    pub targets: SmallVec<usize, 1>,
     pub outbox: Outbox,
     /// While it is due at a server, or its request is under way.
     pub waiting: Option<Waiting>,
@@ -52,19 +56,20 @@ impl Slot {
     {
         Slot {
             key: OneKey::one_of(alloc, request),
-            targets: Vec::new(alloc),
+            targets: SmallVec::new(alloc),
             outbox: Outbox::new(alloc),
             waiting: None,
         }
     }
 
-    /// Begins to route the key.
+    /// Begins to route the key. Its targets are found in a list that other keys may use too.
     pub(crate) fn begin<R: Wait, H: Health>(
         &mut self,
         rt: &R,
         alloc: Global,
         health: &mut H,
         config: &Config,
+        found: &mut Vec<usize>,
     ) -> Result<SlotStep, Dropped>
         requires servers { H.servers health.old ≡ length config.now.addresses }
         requires fresh { self.old ≡ fresh_slot self.old.key.request }
@@ -75,10 +80,12 @@ impl Slot {
         ensures err { OnErr result (self.new.waiting ≡ None) }
         ensures servers { H.servers health.new ≡ H.servers health.old }
     {
-        let targets = &mut self.targets;
         let outbox = &mut self.outbox;
-        match self.key.begin(rt, alloc, health, config, targets, outbox) {
-            Ok(stage) => Ok(self.go_to(stage)),
+        match self.key.begin(rt, alloc, health, config, found, outbox) {
+            Ok(stage) => {
+                self.targets = targets_in(alloc, found);
+                Ok(self.go_to(stage))
+            }
             Err(lost) => Err(lost),
         }
     }
@@ -195,4 +202,14 @@ impl Slot {
     {
         self.waiting.is_none() && !self.key.is_listed()
     }
+}
+
+/// The targets that were found. Several are taken out of their list as it is.
+fn targets_in(alloc: Global, found: &mut Vec<usize>) -> SmallVec<usize, 1>
+    ensures { result.items ≡ found.old.items }
+{
+    if found.len() == 1 {
+        return SmallVec::from_buf(alloc, [found[0]]);
+    }
+    SmallVec::from_vec(replace(found, Vec::new(alloc)))
 }

@@ -9,15 +9,15 @@ use tko_text::Request;
 pub(crate) struct UnderWay {
     pub server: usize,
     pub first: usize,
-    pub group: Option<Group>,
+    pub line: Option<KeyLine>,
 }
 
-/// The keys that go out with a first one.
+/// A line of keys: those that go out with a first one.
 #[derive(Drop)]
-pub(crate) struct Group {
+pub(crate) struct KeyLine {
     pub others: Vec<usize>,
     /// The request for all of them.
-    pub line: Request,
+    pub request: Request,
     /// So many bytes it has at most.
     pub bytes: usize,
 }
@@ -31,17 +31,17 @@ impl Model for UnderWay {
 
     ghost view = { λ u. record {
       server = u.server;
-      places = u.first ∷ unwrap_or (option_map (λ group. group.others) u.group) [];
-      line = option_map (λ group. group.line) u.group;
+      places = u.first ∷ unwrap_or (option_map (λ line. line.others) u.line) [];
+      line = option_map (λ line. line.request) u.line;
     } };
 }
 
-impl Model for Group {
+impl Model for KeyLine {
     ghost use Rattle.tko_keys.specs.KeysState.{LineSoFar};
 
     ghost Value = { LineSoFar };
 
-    ghost view = { λ g. record { others = g.others.items; line = g.line; bytes = g.bytes } };
+    ghost view = { λ k. record { others = k.others.items; request = k.request; bytes = k.bytes } };
 }
 
 impl UnderWay {
@@ -56,8 +56,8 @@ impl UnderWay {
     pub(crate) fn keys(&self) -> usize
         ensures { result ≡ length self.now.places }
     {
-        match &self.group {
-            Some(group) => group.others.len() + 1,
+        match &self.line {
+            Some(line) => line.others.len() + 1,
             None => 1,
         }
     }

@@ -13,3 +13,4 @@ pub mod ResultLemmas
 pub mod StandsLemmas
 mod StatusLemmas
 mod TurnLemmas
+mod ValuesLemmas

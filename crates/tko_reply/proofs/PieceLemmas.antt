@@ -1,7 +1,9 @@
 -- The front and the rest of bytes that lie in three pieces.
-use Rattle.std.proofs.Common.{◌≡◌, ℕ, ◌-◌, ◌+◌, List, ◌++◌, length, length-append, take, drop, refl, sym, ap, ◌∙◌, append-nil, inl, inr, arith}
+use Rattle.std.proofs.Common.{◌≡◌, ℕ, ◌-◌, ◌+◌, List, ◌++◌, length, length-append, take, drop, refl}
+use Rattle.std.proofs.Common.{sym, ap, ◌∙◌, append-nil, inl, inr, arith}
 use Rattle.std.proofs.lemmas.Bool.{cases_lt}
-use Rattle.std.proofs.lemmas.List.{drop-append-le, drop-drop, drop_all, drop_at, take-append-le, take_all}
+use Rattle.std.proofs.lemmas.List.{drop-append-le, drop-drop, drop_all, drop_at, take-append-le}
+use Rattle.std.proofs.lemmas.List.{take_all}
 use Rattle.std.proofs.Math.Seq.{take-append-add}
 
 pub take_two : (n : ℕ) (xs ys : List ℕ) → take n (xs ++ ys) ≡ take n xs ++ take (n - length xs) ys
@@ -33,7 +35,8 @@ pub take_three : (n of_second of_third : ℕ) (xs ys zs : List ℕ) → of_secon
     → of_third ≡ of_second - length ys
     → take n xs ++ take of_second ys ++ take of_third zs ≡ take n (xs ++ ys ++ zs)
 take_three n of_second of_third xs ys zs second third =
-    let count : of_third ≡ n - length (xs ++ ys) = omega (arith, second, third, length-append xs ys) in
+    let count : of_third ≡ n - length (xs ++ ys) =
+    omega (arith, second, third, length-append xs ys) in
     ap (λ k. take n xs ++ take k ys ++ take of_third zs) second
     ∙ ap (λ vs. vs ++ take of_third zs) (sym (take_two n xs ys))
     ∙ ap (λ k. take n (xs ++ ys) ++ take k zs) count ∙ sym (take_two n (xs ++ ys) zs)
@@ -42,7 +45,8 @@ pub drop_three : (n of_second of_third : ℕ) (xs ys zs : List ℕ) → of_secon
     → of_third ≡ of_second - length ys
     → drop n xs ++ drop of_second ys ++ drop of_third zs ≡ drop n (xs ++ ys ++ zs)
 drop_three n of_second of_third xs ys zs second third =
-    let count : of_third ≡ n - length (xs ++ ys) = omega (arith, second, third, length-append xs ys) in
+    let count : of_third ≡ n - length (xs ++ ys) =
+    omega (arith, second, third, length-append xs ys) in
     ap (λ k. drop n xs ++ drop k ys ++ drop of_third zs) second
     ∙ ap (λ vs. vs ++ drop of_third zs) (sym (drop_two n xs ys))
     ∙ ap (λ k. drop n (xs ++ ys) ++ drop k zs) count ∙ sym (drop_two n (xs ++ ys) zs)

@@ -8,19 +8,31 @@ use Rattle.tko_reply.specs.declared.parts.Parts.{Parts}
 
 module _ {H L T C : Type 0} {servers : H → ℕ} {linked : L → ℕ} where
   -- health was asked or told something
-  pub told_reach : {at : Parts H L T C} {after : H} → Reaches servers linked at → servers after ≡ servers at.backend.health
+  pub told_reach : {at : Parts H L T C} {after : H} → Reaches servers linked at
+      → servers after ≡ servers at.backend.health
       → Reaches servers linked (with_health after at)
-  told_reach reach same = record { health = same ∙ reach.health; links = reach.links; probers = reach.probers }
+  told_reach reach same = record
+      { health = same ∙ reach.health; links = reach.links; probers = reach.probers }
 
   -- a request or a trail was recorded
-  pub recorded_reach : {at : Parts H L T C} {after : T} → Reaches servers linked at → Reaches servers linked (record at { trails = after })
-  recorded_reach reach = record { health = reach.health; links = reach.links; probers = reach.probers }
+  pub recorded_reach : {at : Parts H L T C} {after : T} → Reaches servers linked at
+      → Reaches servers linked (record at { trails = after })
+  recorded_reach reach = record
+      { health = reach.health; links = reach.links; probers = reach.probers }
 
   -- the links are other ones with as many servers
-  pub linked_reach : {at : Parts H L T C} {after : L} → Reaches servers linked at → linked after ≡ linked at.backend.links
+  pub linked_reach : {at : Parts H L T C} {after : L} → Reaches servers linked at
+      → linked after ≡ linked at.backend.links
       → Reaches servers linked (with_links after at)
-  linked_reach reach same = record { health = reach.health; links = same ∙ reach.links; probers = reach.probers }
+  linked_reach reach same =
+      record { health = reach.health; links = same ∙ reach.links; probers = reach.probers }
 
   -- more servers are going to be probed
-  pub noted_reach : {at : Parts H L T C} (trail : List Attempt) → Reaches servers linked at → Reaches servers linked (with_noted trail at)
-  noted_reach {at} trail reach = record { health = reach.health; links = reach.links; probers = length-noted trail at.backend.probers ∙ reach.probers }
+  pub noted_reach : {at : Parts H L T C} (trail : List Attempt) → Reaches servers linked at
+      → Reaches servers linked (with_noted trail at)
+  noted_reach {at} trail reach =
+      record {
+        health = reach.health;
+        links = reach.links;
+        probers = length-noted trail at.backend.probers ∙ reach.probers;
+      }

@@ -8,12 +8,14 @@ on_err (Ok x) p = tt
 on_err (Err e) p = p
 
 -- what follows from a fact on the value of an Ok
-pub if_ok : {A E : Type 0} {P : A → Type 0} {Q : A → Type 0} (r : Result A E) → IfOk r P → ((x : A) → P x → Q x) → IfOk r Q
+pub if_ok : {A E : Type 0} {P : A → Type 0} {Q : A → Type 0} (r : Result A E) → IfOk r P
+    → ((x : A) → P x → Q x) → IfOk r Q
 if_ok (Ok x) p f = f x p
 if_ok (Err e) p f = tt
 
 -- what follows from a fact on the error
-pub if_err : {A E : Type 0} {P : E → Type 0} {Q : E → Type 0} (r : Result A E) → IfErr r P → ((e : E) → P e → Q e) → IfErr r Q
+pub if_err : {A E : Type 0} {P : E → Type 0} {Q : E → Type 0} (r : Result A E) → IfErr r P
+    → ((e : E) → P e → Q e) → IfErr r Q
 if_err (Ok x) p f = tt
 if_err (Err e) p f = f e p
 
@@ -29,7 +31,8 @@ on_ok (Ok x) a f = f a
 on_ok (Err e) a f = tt
 
 -- what follows from a fact on the value of an Ok, and does not name it
-pub on_ok_if : {T E B : Type 0} {P : T → Type 0} (r : Result T E) → IfOk r P → ((x : T) → P x → B) → OnOk r B
+pub on_ok_if : {T E B : Type 0} {P : T → Type 0} (r : Result T E) → IfOk r P → ((x : T) → P x → B)
+    → OnOk r B
 on_ok_if (Ok x) p f = f x p
 on_ok_if (Err e) p f = tt
 

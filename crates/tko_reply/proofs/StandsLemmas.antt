@@ -1,5 +1,6 @@
 -- How far the answer to a request came, over its own interactions so far.
-use Rattle.std.proofs.Common.{◌≡◌, ℕ, ◌<◌, Bool, List, [], ◌∷◌, ◌++◌, All, length, map, refl, sym, ap, ◌∙◌, append-nil, arith}
+use Rattle.std.proofs.Common.{◌≡◌, ℕ, ◌<◌, Bool, List, [], ◌∷◌, ◌++◌, All, length, map, refl, sym}
+use Rattle.std.proofs.Common.{ap, ◌∙◌, append-nil, arith}
 use Rattle.std.proofs.lemmas.List.Elements.{All-nil}
 use Rattle.tko_text.specs.declared.request.Request.{Request}
 use Rattle.tko_pools.specs.Configs.{Configuration, targets_of}
@@ -107,24 +108,31 @@ Stands config request outbox (stage.Away clear waiting) one targets was outbox' 
 Stands config request outbox (stage.Done trail) one targets was outbox' =
     IsTried config request outbox trail one was outbox'
 
-module _ {config : Configuration} {request : Request} {outbox outbox' : List ℕ} {was : List Interaction} where
+module _ {config : Configuration} {request : Request} {outbox outbox' : List ℕ}
+    {was : List Interaction} where
   -- the request of a key has this key alone
-  pub keyed : {key : List ℕ} {one : OneKey} → IsAt config request outbox key one was outbox' → request_keys one.request ≡ key ∷ []
+  pub keyed : {key : List ℕ} {one : OneKey} → IsAt config request outbox key one was outbox'
+      → request_keys one.request ≡ key ∷ []
   keyed (alone e keys none same) = ap (λ (o : OneKey). request_keys o.request) e ∙ keys
   keyed {key = key} (among all left unique is some e so_far) =
       ap (λ (o : OneKey). request_keys o.request) e ∙ retrieval_keys (key ∷ []) unique
 
   -- the replies from before the request are still there
-  pub at_extends : {key : List ℕ} {one : OneKey} → IsAt config request outbox key one was outbox' → Extends outbox outbox'
+  pub at_extends : {key : List ℕ} {one : OneKey} → IsAt config request outbox key one was outbox'
+      → Extends outbox outbox'
   at_extends (alone e keys none same) = record { more = []; is = same ∙ sym (append-nil outbox) }
-  at_extends (among all left unique is some e so_far) = record { more = joined_values so_far.routed; is = so_far.appended }
+  at_extends (among all left unique is some e so_far) =
+      record { more = joined_values so_far.routed; is = so_far.appended }
 
-  pub past_extends : {one : OneKey} → IsPast config request outbox one was outbox' → Extends outbox outbox'
+  pub past_extends : {one : OneKey} → IsPast config request outbox one was outbox'
+      → Extends outbox outbox'
   past_extends (complete silent is done) = record { more = done.text; is = done.appended }
-  past_extends (values_joined all left unique key is some e so_far) = record { more = joined_values so_far.routed; is = so_far.appended }
+  past_extends (values_joined all left unique key is some e so_far) =
+      record { more = joined_values so_far.routed; is = so_far.appended }
 
 -- what a request begins with
-pub is_first : (config : Configuration) (outbox : List ℕ) (request : Request) (one : OneKey) → asked.IsFirst request (length outbox) one
+pub is_first : (config : Configuration) (outbox : List ℕ) (request : Request) (one : OneKey)
+    → asked.IsFirst request (length outbox) one
     → (key : List ℕ) × IsAt config request outbox key one [] outbox
 is_first config outbox request one (asked.alone single e) =
     let found = one_key (request_keys request) single in

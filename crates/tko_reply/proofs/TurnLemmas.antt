@@ -10,7 +10,8 @@ none_ahead (one ∷ ahead) few = absurd (omega (arith, few))
 pub to_turn : (keys : List (List ℕ)) (routed : List RoutedKey) (text : List ℕ)
     → IsReply 1 keys routed text → IsReplyInTurn keys routed text
 to_turn keys routed text (reply.all_values are values is) = reply.only_values are values is
-to_turn keys routed text (reply.first_other before last ahead unrouted parts few are values other is) =
+to_turn keys routed text
+    (reply.first_other before last ahead unrouted parts few are values other is) =
     reply.last_other before last unrouted
     (subst (λ xs. routed ≡ before ++ last ∷ xs) (none_ahead ahead few) parts) are values other is
 

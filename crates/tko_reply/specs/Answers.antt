@@ -2,7 +2,9 @@
 use Rattle.std.specs.Prelude.{◌≡◌, ◌<◌, ℕ, List, [], ◌∷◌, ◌++◌, length, map}
 use Rattle.tko_model.specs.Records.{HealthItem}
 use Rattle.tko_text.specs.declared.request.Request.{Request}
-use Rattle.tko_text.specs.declared.request.Request.TheVariants.{Get, Gets, Store, Cas, Delete, Incr, Decr, Touch, Version, Quit, StatsTko}
+use Rattle.tko_text.specs.declared.request.Request.TheVariants.{Get, Gets, Store, Cas, Delete, Incr}
+use Rattle.tko_text.specs.declared.request.Request.TheVariants.{Decr, Touch, Version, Quit}
+use Rattle.tko_text.specs.declared.request.Request.TheVariants.{StatsTko}
 use Rattle.tko_text.specs.SentRequests.{without_noreply}
 use Rattle.tko_pools.specs.Configs.{Configuration, targets_of}
 use Rattle.tko_route.specs.Calls.{RoutedCall}

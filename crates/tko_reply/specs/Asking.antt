@@ -1,7 +1,8 @@
 -- The answer to one request as a value: how its calls begin a key, end it and go on. What came of a
 -- send is passed to it, and other calls of the servers' health may stand between two calls of the
 -- value. So each clause speaks of the calls of its key alone.
-use Rattle.std.specs.Prelude.{◌≡◌, ◌≤◌, ℕ, Bool, true, false, List, [], ◌∷◌, ◌++◌, IsSome, Option, length, map, take, unwrap_or, if◌then◌else◌}
+use Rattle.std.specs.Prelude.{◌≡◌, ◌≤◌, ℕ, Bool, true, false, List, [], ◌∷◌, ◌++◌, IsSome, Option}
+use Rattle.std.specs.Prelude.{length, map, take, unwrap_or, if◌then◌else◌}
 use Rattle.tko_model.specs.Records.{HealthItem}
 use Rattle.tko_text.specs.declared.request.Request.{Request}
 use Rattle.tko_text.specs.declared.response.Response.{Response}

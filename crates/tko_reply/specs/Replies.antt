@@ -1,5 +1,6 @@
 -- The texts that a client gets for its requests.
-use Rattle.std.specs.Prelude.{◌≡◌, ◌<◌, ℕ, List, [], ◌∷◌, ◌++◌, codes, length, map, flat_map, All, Option, Some, None, IsSome, sum_by, unwrap_or, if◌then◌else◌}
+use Rattle.std.specs.Prelude.{◌≡◌, ◌<◌, ℕ, List, [], ◌∷◌, ◌++◌, codes, length, map, flat_map, All}
+use Rattle.std.specs.Prelude.{Option, Some, None, IsSome, sum_by, unwrap_or, if◌then◌else◌}
 use Rattle.tko_text.specs.declared.request.Request.{Request}
 use Rattle.tko_text.specs.declared.response.Response.{Response}
 use Rattle.tko_text.specs.declared.response.Response.TheVariants.{Values}

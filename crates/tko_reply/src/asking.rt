@@ -2,7 +2,8 @@
 //! request, values that are joined, a silent request and the status are its states.
 ghost use Rattle.std.specs.Prelude.{◌≡◌, IfErr, IfOk, OnErr, OnOk, length};
 ghost use Rattle.tko_reply.specs.Answering.{Extends};
-ghost use Rattle.tko_reply.specs.Asking.{BeginsAnswer, ContinuesKeys, Goes, GoesTo, HasFront, IsJoined, Settles, course_of, front_of};
+ghost use Rattle.tko_reply.specs.Asking.{BeginsAnswer, ContinuesKeys, Goes, GoesTo, HasFront};
+ghost use Rattle.tko_reply.specs.Asking.{IsJoined, Settles, course_of, front_of};
 ghost use Rattle.tko_reply.specs.Cuts.{EndsBy, IsBeginCut, IsEndOf, KeyLost};
 ghost use Rattle.tko_reply.specs.Sends.{AfterSend, IsOutTo};
 ghost use Rattle.tko_reply.specs.Standing.{asking, is_joined, one_of, whole_of};

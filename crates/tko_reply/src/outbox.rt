@@ -1,5 +1,6 @@
 //! Replies that wait to be written.
-ghost use Rattle.std.specs.Prelude.{◌≡◌, ◌≤◌, ◌↔◌, ◌++◌, ℕ, [], IfOk, IsTrue, List, OnOk, OnErr, drop, length, take, unwrap_or};
+ghost use Rattle.std.specs.Prelude.{◌≡◌, ◌≤◌, ◌↔◌, ◌++◌, ℕ, [], IfOk, IsTrue, List, OnOk, OnErr};
+ghost use Rattle.std.specs.Prelude.{drop, length, take, unwrap_or};
 ghost use Rattle.tko_text.specs.Responses.{response_text, value_text};
 ghost use Rattle.tko_reply.specs.Answering.{Extends};
 ghost use Rattle.tko_reply.specs.Replies.{reply_bound};
@@ -88,6 +89,9 @@ impl Outbox {
         ensures ok { OnOk result (self.new ≡ self.old ++ text.now) }
         ensures err { OnErr result (self.new ≡ self.old) }
     {
+        if text.is_empty() {
+            return Ok(());
+        }
         Ok(self.bytes.extend_from_slice(text)?)
     }
 
@@ -121,8 +125,7 @@ impl Outbox {
         if self.len() > MOST - text.len() {
             return Err(NoMemory);
         }
-        let pieces = [text_in(&self.long), self.bytes.as_slice()];
-        append(&mut self.before, &pieces)?;
+        append_both(&mut self.before, text_in(&self.long), &self.bytes)?;
         self.bytes.clear();
         self.long = Some(text);
         Ok(())
@@ -145,16 +148,20 @@ impl Outbox {
         ensures ok { OnOk result (self.new ≡ self.old ++ other) }
         ensures err { OnErr result (Extends self.old self.new) }
     {
-        let Outbox {
-            before,
-            long,
-            bytes,
-        } = other;
-        self.append(&before)?;
-        if let Some(text) = long {
-            self.append_shared(text)?;
+        self.append_from(&other)
+    }
+
+    /// Appends what another outbox has, which keeps it: they share its long text where that is not
+    /// copied.
+    pub fn append_from(&mut self, other: &Outbox) -> Result<(), NoMemory>
+        ensures ok { OnOk result (self.new ≡ self.old ++ other.now) }
+        ensures err { OnErr result (Extends self.old self.new) }
+    {
+        self.append(&other.before)?;
+        if let Some(text) = &other.long {
+            self.append_shared(text.clone()?)?;
         }
-        self.append(&bytes)
+        self.append(&other.bytes)
     }
 
     /// Drops all but the first `len` bytes.
@@ -188,6 +195,17 @@ fn text_in(long: &Option<Bytes>) -> &[u8]
         Some(text) => text.as_slice(),
         None => &[],
     }
+}
+
+/// Appends two texts, of which there may be none.
+fn append_both(out: &mut Vec<u8>, first: &[u8], second: &[u8]) -> Result<(), NoMemory>
+    ensures ok { OnOk result (out.new.items ≡ out.old.items ++ first.now ++ second.now) }
+    ensures err { OnErr result (out.new.items ≡ out.old.items) }
+{
+    if first.is_empty() && second.is_empty() {
+        return Ok(());
+    }
+    append(out, &[first, second])
 }
 
 /// Drops the first `count` bytes, and where none is left the room above what is kept.

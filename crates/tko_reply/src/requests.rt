@@ -1,5 +1,6 @@
 //! Requests by their keys.
-ghost use Rattle.std.specs.Prelude.{◌≡◌, ◌<◌, ◌↔◌, [], ◌∷◌, ℕ, Bool, List, IfOk, IsTrue, length, slice_get};
+ghost use Rattle.std.specs.Prelude.{◌≡◌, ◌<◌, ◌↔◌, [], ◌∷◌, ℕ, Bool, List, IfOk, IsTrue, length};
+ghost use Rattle.std.specs.Prelude.{slice_get};
 ghost use Rattle.std.specs.Option.{option_copied};
 ghost use Rattle.tko_reply.specs.Answers.{IsKeyed, request_keys};
 ghost use Rattle.tko_reply.specs.Answering.{IsSplit, retrieval};

@@ -28,7 +28,8 @@ pub trait Trails {
         ensures err { OnErr result (self.new ≡ self.old) };
 
     /// An attempt at a server has ended. Each is told once, in order, before its trail, and also
-    /// where its request is dropped and its trail is not recorded.
+    /// where its request is dropped and its trail is not recorded. An attempt that several keys
+    /// share, since one request asked for all of them, is told once, for the first of them.
     fn attempt<R: IoRuntime>(&mut self, _rt: &R, _attempt: &Attempt)
         ensures { self.new ≡ self.old }
     {}

@@ -3,6 +3,7 @@ pub mod Commands
 pub mod Data
 pub mod DataEnds
 pub mod Heads
+pub mod HeldKeys
 pub mod Keys
 pub mod Limits
 pub mod Lines

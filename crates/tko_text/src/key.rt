@@ -2,14 +2,18 @@
 ghost use Rattle.std.specs.Prelude.{◌≡◌, ◌↔◌, IfOk, IfSome, IsSome, IsTrue, is_some};
 
 use crate::NoMemory;
+use smallvec::SmallVec;
 use std::alloc::Global;
 use std::marker::Model;
+
+/// How many bytes a key has at most that takes no allocation.
+const SHORT: usize = 24;
 
 /// 1 to 250 bytes, none of them a control character, a space or 127. Contracts see the list of the
 /// bytes.
 #[derive(Debug, Drop)]
 pub struct Key {
-    bytes: Vec<u8>,
+    bytes: SmallVec<u8, SHORT>,
 }
 
 impl Model for Key {
@@ -31,6 +35,7 @@ impl Key {
         requires { IsKey bytes.items }
         ensures { result ≡ bytes.items }
     {
+        let bytes = SmallVec::from_vec(bytes);
         Key { bytes }
     }
 
@@ -42,15 +47,6 @@ impl Key {
         is_key(bytes)
     }
 
-    /// The bytes of the key.
-    pub fn into_bytes(self) -> Vec<u8>
-        ensures value { result.items ≡ self }
-        ensures key { IsKey self }
-    {
-        let Key { bytes } = self;
-        bytes
-    }
-
     /// The key of these bytes, where they are one.
     pub fn of(alloc: Global, bytes: &[u8]) -> Result<Option<Key>, NoMemory>
         ensures some { IfOk result (λ key. IsSome key ↔ IsKey bytes.now) }
@@ -60,16 +56,23 @@ impl Key {
         if !is_key(bytes) {
             return Ok(None);
         }
-        let bytes = Vec::from_slice(alloc, bytes)?;
-        Ok(Some(Key { bytes }))
+        Ok(Some(Key::of_fitting(alloc, bytes)?))
+    }
+
+    /// The key of these bytes, which are one.
+    pub(crate) fn of_fitting(alloc: Global, bytes: &[u8]) -> Result<Key, NoMemory>
+        requires { IsKey bytes.now }
+        ensures { IfOk result (λ key. key ≡ bytes.now) }
+    {
+        let bytes = SmallVec::from_slice(alloc, bytes)?;
+        Ok(Key { bytes })
     }
 
     /// The same key once more.
     pub fn copy(&self, alloc: Global) -> Result<Key, NoMemory>
         ensures { IfOk result (λ key. key ≡ self.now) }
     {
-        let bytes = Vec::from_slice(alloc, self.bytes.as_slice())?;
-        Ok(Key { bytes })
+        Key::of_fitting(alloc, self.as_bytes())
     }
 
     pub fn as_bytes(&self) -> &[u8]

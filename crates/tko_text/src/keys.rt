@@ -6,22 +6,35 @@ use crate::{Key, NoMemory};
 use std::alloc::Global;
 use std::marker::Model;
 use std::mem::replace;
+use std::slice::from_ref;
 use std::vec::IntoIter;
+
+/// How many keys there is room for at first where there are several.
+const ROOM: usize = 16;
 
 /// One key or more. Contracts see the list of them.
 #[derive(Debug, Drop)]
 pub struct Keys {
-    keys: Vec<Key>,
+    alloc: Global,
+    held: Held,
+}
+
+/// Where the keys are: one takes no allocation.
+#[derive(Debug, Drop)]
+pub(crate) enum Held {
+    One(Key),
+    Several(Vec<Key>),
 }
 
 impl Model for Keys {
     ghost use Rattle.std.specs.Prelude.{List, ℕ, ◌<◌, length};
+    ghost use Rattle.tko_text.specs.HeldKeys.{held_keys};
 
     ghost Value = { List (List ℕ) };
 
-    ghost view = { λ k. k.keys.items };
+    ghost view = { λ k. held_keys k.held };
 
-    ghost invariant = { λ k. 0 < length k.keys.items };
+    ghost invariant = { λ k. 0 < length (held_keys k.held) };
 }
 
 impl Keys {
@@ -29,14 +42,27 @@ impl Keys {
         requires { 0 < length keys.items }
         ensures { result ≡ keys.items }
     {
-        Keys { keys }
+        let alloc = *keys.allocator();
+        let held = Held::Several(keys);
+        Keys { alloc, held }
+    }
+
+    /// One key, which takes no memory.
+    pub fn one(alloc: Global, key: Key) -> Keys
+        ensures { result ≡ key ∷ [] }
+    {
+        let held = Held::One(key);
+        Keys { alloc, held }
     }
 
     pub fn as_slice(&self) -> &[Key]
         ensures value { result.now ≡ self.now }
         ensures some { 0 < length self.now }
     {
-        self.keys.as_slice()
+        match &self.held {
+            Held::One(key) => from_ref(key),
+            Held::Several(keys) => keys.as_slice(),
+        }
     }
 
     /// Puts a key behind the others.
@@ -44,7 +70,7 @@ impl Keys {
         ensures ok { OnOk result (self.new ≡ self.old ++ key ∷ []) }
         ensures err { OnErr result (self.new ≡ self.old) }
     {
-        Ok(self.keys.push(key)?)
+        self.held.push(self.alloc, key)
     }
 
     /// Keeps the first key alone, and returns those that follow it.
@@ -53,20 +79,44 @@ impl Keys {
         ensures one { OnOk result (length self.new ≡ 1) }
         ensures err { OnErr result (self.new ≡ self.old) }
     {
-        let room = Vec::with_capacity(alloc, 1)?;
-        let mut others = replace(&mut self.keys, room).into_iter();
-        let Some(first) = others.next() else {
-            unreachable!();
-        };
-        self.keys.push_reserved(first);
-        Ok(others)
+        match &mut self.held {
+            Held::One(_) => Ok(Vec::new(alloc).into_iter()),
+            Held::Several(keys) => {
+                let mut others = replace(keys, Vec::new(alloc)).into_iter();
+                let Some(first) = others.next() else {
+                    unreachable!();
+                };
+                self.held = Held::One(first);
+                Ok(others)
+            }
+        }
     }
 
     /// Puts a key in the place of all of them, which takes no memory.
     pub fn set_only(&mut self, key: Key)
         ensures { self.new ≡ key ∷ [] }
     {
-        self.keys.truncate(1);
-        self.keys[0] = key;
+        self.held = Held::One(key);
+    }
+}
+
+impl Held {
+    ghost use Rattle.tko_text.specs.HeldKeys.{held_keys};
+
+    /// Puts a key behind the others.
+    fn push(&mut self, alloc: Global, key: Key) -> Result<(), NoMemory>
+        ensures ok { OnOk result (held_keys self.new ≡ held_keys self.old ++ key ∷ []) }
+        ensures err { OnErr result (held_keys self.new ≡ held_keys self.old) }
+    {
+        if let Held::Several(keys) = self {
+            return Ok(keys.push(key)?);
+        }
+        let mut keys = Vec::with_capacity(alloc, ROOM)?;
+        if let Held::One(first) = replace(self, Held::Several(Vec::new(alloc))) {
+            keys.push_reserved(first);
+        }
+        keys.push_reserved(key);
+        *self = Held::Several(keys);
+        Ok(())
     }
 }

@@ -1,6 +1,7 @@
 //! Request lines, parsed word by word.
-ghost use Rattle.std.specs.Prelude.{◌≡◌, ◌≢◌, Some, None, IfOk, MatchOption};
+ghost use Rattle.std.specs.Prelude.{◌≡◌, ◌≢◌, ◌∷◌, Some, None, IfOk, MatchOption, true};
 ghost use Rattle.tko_text.specs.Commands.{Announced, announced, announced_by, entry_with, keys_of, noreply, parsed, parsed_bare, parsed_form, parsed_stats, with_data};
+ghost use Rattle.tko_text.specs.Keys.{is_key};
 ghost use Rattle.tko_text.specs.Parsed.{IsWithinLimits, counter_form, meaning, stored_by};
 
 use crate::expiry::expiry_of;
@@ -117,15 +118,38 @@ fn read_keys(alloc: Global, mut words: SpacedWords) -> Result<Result<Keys, TextF
     ensures is { IfOk result (λ found. keys_of words.entry ≡ found) }
     ensures fault { IfOk result (λ found. found ≢ Err TextFault.LineTooLong) }
 {
-    let mut keys = Vec::new(alloc);
+    let Some(word) = words.next() else {
+        return Ok(Err(TextFault::BadLine));
+    };
+    let Some(first) = Key::of(alloc, word)? else {
+        return Ok(Err(TextFault::BadKey));
+    };
+    if words.is_done() {
+        return Ok(Ok(Keys::one(alloc, first)));
+    }
+    read_others(alloc, first, words)
+}
+
+/// How many keys there is room for at first where there are several.
+const KEYS: usize = 16;
+
+/// The keys that the first one and these words are.
+fn read_others(
+    alloc: Global,
+    first: Key,
+    mut words: SpacedWords,
+) -> Result<Result<Keys, TextFault>, NoMemory>
+    requires { is_key first ≡ true }
+    ensures is { IfOk result (λ found. keys_of (first ∷ words.entry) ≡ found) }
+    ensures fault { IfOk result (λ found. found ≢ Err TextFault.LineTooLong) }
+{
+    let mut keys = Vec::with_capacity(alloc, KEYS)?;
+    keys.push_reserved(first);
     while let Some(word) = words.next() {
         match Key::of(alloc, word)? {
             Some(key) => keys.push(key)?,
             None => return Ok(Err(TextFault::BadKey)),
         }
-    }
-    if keys.is_empty() {
-        return Ok(Err(TextFault::BadLine));
     }
     Ok(Ok(Keys::new(keys)))
 }
@@ -202,7 +226,7 @@ fn with_data(
     if entry.size > DATA_LIMIT as u64 {
         return Ok(ParsedLine::Refused(TextFault::TooLarge, Some(entry.size)));
     }
-    let key = Key::new(Vec::from_slice(alloc, entry.key)?);
+    let key = Key::of_fitting(alloc, entry.key)?;
     Ok(ParsedLine::AwaitsData(Header {
         word,
         key,

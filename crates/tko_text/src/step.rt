@@ -23,7 +23,7 @@ pub(crate) fn next_line(
     state: &mut ReaderState,
     buffer: &mut Buffer,
 ) -> Result<Option<Item>, NoMemory>
-    requires { state.old ≡ State.Line }
+    requires { state.old ≡ ReaderState.Line }
     ensures is { IfOk result (λ found. IsState state.new buffer.new) }
     ensures ok { IfOk result (λ found.
         Steps (at buffer.old) found (reading_of state.new buffer.new)) }
@@ -48,7 +48,7 @@ fn read(
     len: usize,
 ) -> Result<Option<Item>, NoMemory>
     requires line { IsEndedAt buffer.old len }
-    requires awaits { state.old ≡ State.Line }
+    requires awaits { state.old ≡ ReaderState.Line }
     ensures is { IfOk result (λ found. IsState state.new buffer.new) }
     ensures ok { IfOk result (λ found.
         Steps (at buffer.old) found (reading_of state.new buffer.new)) }
@@ -81,7 +81,7 @@ fn read_data(
     header: Header,
 ) -> Result<Option<Item>, NoMemory>
     requires line { IsEndedAt buffer.old len }
-    requires awaits { state.old ≡ State.Line }
+    requires awaits { state.old ≡ ReaderState.Line }
     requires header { parsed (content (take len buffer.old))
         ≡ AwaitsData header.size (request_with header) }
     requires size { header.size ≤ data_limit }

@@ -1,5 +1,6 @@
 //! How a key is begun.
-ghost use Rattle.std.specs.Prelude.{◌≡◌, ◌≢◌, ◌<◌, ◌+◌, ◌≤◌, ◌-◌, ◌^◌, ◌++◌, IfErr, IfOk, OnErr, OnOk, [], length, vec_capacity, vec_len};
+ghost use Rattle.std.specs.Prelude.{◌≡◌, ◌≢◌, ◌<◌, ◌+◌, ◌≤◌, ◌-◌, ◌^◌, ◌++◌, IfErr, IfOk, OnErr};
+ghost use Rattle.std.specs.Prelude.{OnOk, [], length, vec_capacity, vec_len};
 ghost use Rattle.std.specs.VecDeque.{deque_capacity, deque_len};
 ghost use Rattle.tko_route.specs.Routing.{GoesOn};
 ghost use Rattle.tko_keys.specs.FirstKey.{IsAlone, TakesNext, keys_with};
@@ -54,7 +55,7 @@ impl KeysAtOnce {
             return Err(Dropped::from(NoMemory));
         };
         let mut slot = Slot::of(alloc, request);
-        let came = slot.begin(rt, alloc, health, config);
+        let came = slot.begin(rt, alloc, health, config, &mut self.found);
         self.held = self.held.saturating_add(slot.outbox.len());
         match came {
             Ok(step) => {
@@ -85,14 +86,14 @@ fn make_room(
     ensures due { due.new.items ≡ due.old.items }
     ensures sends { sends.new.items ≡ sends.old.items }
     ensures room { OnOk result (vec_len slots.new < vec_capacity slots.new) }
-    ensures due_room { OnOk result (deque_len due.new + out ≤ deque_capacity due.new) }
+    ensures due_room { OnOk result (out ≤ deque_capacity due.new) }
     ensures sends_room { OnOk result (out ≤ deque_capacity sends.new) }
     ensures due_kept { deque_capacity due.old ≤ deque_capacity due.new }
     ensures sends_kept { deque_capacity sends.old ≤ deque_capacity sends.new }
 {
     slots.reserve(1)?;
-    due.reserve(out)?;
-    sends.reserve(out)?;
+    due.reserve(out.saturating_sub(due.len()))?;
+    sends.reserve(out.saturating_sub(sends.len()))?;
     Ok(())
 }
 

@@ -20,19 +20,19 @@ impl KeysAtOnce {
             let slot = slots.remove(self.ahead);
             return outbox.append_all(slot.outbox);
         }
-        append_values(slots, outbox)?;
+        append_values(&slots, outbox)?;
         outbox.append_end()
     }
 }
 
 /// Puts the responses to some keys at the end of an outbox, one after another.
-fn append_values(slots: Vec<Slot>, outbox: &mut Outbox) -> Result<(), NoMemory>
+fn append_values(slots: &[Slot], outbox: &mut Outbox) -> Result<(), NoMemory>
     ensures ok { OnOk result
-        (outbox.new ≡ outbox.old ++ flat_map (λ (slot : KeySlot). slot.outbox) slots.items) }
+        (outbox.new ≡ outbox.old ++ flat_map (λ (slot : KeySlot). slot.outbox) slots.now) }
     ensures err { OnErr result (Extends outbox.old outbox.new) }
 {
     for slot in slots {
-        outbox.append_all(slot.outbox)?;
+        outbox.append_from(&slot.outbox)?;
     }
     Ok(())
 }

@@ -1,5 +1,6 @@
 //! The keys that are due, the requests under way, and the keys that got lists of values.
-ghost use Rattle.std.specs.Prelude.{◌≡◌, ◌<◌, ◌≤◌, ◌+◌, ◌-◌, ◌^◌, ◌==◌, ◌++◌, IsSome, length, position, Some};
+ghost use Rattle.std.specs.Prelude.{◌≡◌, ◌<◌, ◌≤◌, ◌+◌, ◌-◌, ◌^◌, ◌==◌, ◌++◌, IsSome, length};
+ghost use Rattle.std.specs.Prelude.{position, Some};
 ghost use Rattle.std.specs.VecDeque.{deque_capacity, deque_len};
 ghost use Rattle.tko_keys.specs.KeysDriven.{IsLastAt, due_by, failed_with};
 ghost use Rattle.tko_keys.specs.KeysState.{first_send, values_ahead, without_first};

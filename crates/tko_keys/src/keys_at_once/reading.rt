@@ -1,6 +1,7 @@
 //! What is due and under way: requests, and the attempts before them.
 ghost use Rattle.std.specs.Prelude.{◌≡◌, ◌≢◌, IsSome, Some, []};
-ghost use Rattle.tko_keys.specs.KeysState.{HavePlaces, asked_first, asked_last, attempts_last, first_send, keys_first, request_of};
+ghost use Rattle.tko_keys.specs.KeysState.{HavePlaces, asked_first, asked_last, attempts_last};
+ghost use Rattle.tko_keys.specs.KeysState.{first_send, keys_first, request_of};
 
 use super::KeysAtOnce;
 use super::places::index_of;
@@ -58,8 +59,8 @@ fn request_of<'a>(slots: &'a [Slot], send: &'a UnderWay) -> &'a Request
     requires { HavePlaces slots.now send.now.places }
     ensures { request_of slots.now send.now ≡ Some result.now }
 {
-    match &send.group {
-        Some(group) => &group.line,
+    match &send.line {
+        Some(line) => &line.request,
         None => {
             let slot = &slots[send.first];
             slot.key.request()

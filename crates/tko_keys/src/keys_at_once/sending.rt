@@ -1,8 +1,10 @@
 //! How keys that are due at a server go out.
-ghost use Rattle.std.specs.Prelude.{◌≡◌, ◌≢◌, ◌<◌, ◌==◌, ◌↔◌, ℕ, Bool, [], All, IfNone, IfSome, IsSome, IsTrue, List, length, position};
+ghost use Rattle.std.specs.Prelude.{◌≡◌, ◌≢◌, ◌<◌, ◌==◌, ◌↔◌, ℕ, Bool, [], All, IfNone, IfSome};
+ghost use Rattle.std.specs.Prelude.{IsSome, IsTrue, List, length, position};
 ghost use Rattle.std.specs.VecDeque.{deque_capacity, deque_len};
 ghost use Rattle.tko_pools.specs.Configs.{Configuration};
-ghost use Rattle.tko_keys.specs.Groups.{GoesWith, HasFilled, HasGathered, IsFirstDue, IsGroupFor, PutsAs};
+ghost use Rattle.tko_keys.specs.KeyLines.{GoesWith, HasFilled, HasGathered, IsFirstDue};
+ghost use Rattle.tko_keys.specs.KeyLines.{IsKeyLineFor, PutsAs};
 ghost use Rattle.tko_keys.specs.KeysDriven.{AreUnderWay, HasSent};
 ghost use Rattle.tko_keys.specs.KeysState.{MayBegin, first_due};
 ghost use Rattle.tko_keys.specs.declared.plan.Grouping.TheVariants.{ByServer};
@@ -11,7 +13,7 @@ use super::KeysAtOnce;
 use crate::due::Due;
 use crate::plan::Grouping;
 use crate::slot::Slot;
-use crate::under_way::{Group, UnderWay};
+use crate::under_way::{KeyLine, UnderWay};
 use std::alloc::Global;
 use std::collections::VecDeque;
 use tko_model::Clear;
@@ -28,7 +30,7 @@ pub struct Sending {
 /// The keys that go out with a first one, if there are any.
 #[derive(Drop)]
 struct Gathered {
-    group: Option<Group>,
+    line: Option<KeyLine>,
     short: bool,
 }
 
@@ -67,7 +69,7 @@ impl KeysAtOnce {
         let grouping = self.plan.grouping;
         let slots = self.slots.as_slice();
         let due = &mut self.due;
-        let Gathered { group, short } = group_for(
+        let Gathered { line, short } = line_for(
             alloc,
             grouping,
             self.unique,
@@ -79,7 +81,7 @@ impl KeysAtOnce {
         self.sends.push_back_reserved(UnderWay {
             server,
             first: place,
-            group,
+            line,
         });
         Sending { clear, short }
     }
@@ -110,7 +112,7 @@ fn take_due(due: &mut VecDeque<Due>, server: usize) -> Due
 }
 
 /// Takes the keys that go out with the key of this place.
-fn group_for(
+fn line_for(
     alloc: Global,
     grouping: Grouping,
     unique: bool,
@@ -121,13 +123,13 @@ fn group_for(
 ) -> Gathered
     requires slot { place < length slots.now }
     requires slots { All (λ it. it.place < length slots.now) due.old.items }
-    ensures goes { GoesWith grouping unique slots.now server place result.group result.short
+    ensures goes { GoesWith grouping unique slots.now server place result.line result.short
         due.old.items due.new.items }
     ensures room { deque_capacity due.new ≡ deque_capacity due.old }
 {
     match grouping {
         Grouping::ByKey => Gathered {
-            group: None,
+            line: None,
             short: false,
         },
         Grouping::ByServer => gather(alloc, unique, slots, due, server, place),
@@ -145,28 +147,28 @@ fn gather(
 ) -> Gathered
     requires slot { place < length slots.now }
     requires slots { All (λ it. it.place < length slots.now) due.old.items }
-    ensures gathered { HasGathered unique slots.now server place result.group result.short
+    ensures gathered { HasGathered unique slots.now server place result.line result.short
         due.old.items due.new.items }
     ensures room { deque_capacity due.new ≡ deque_capacity due.old }
 {
     if !is_due(due, server) {
         return Gathered {
-            group: None,
+            line: None,
             short: false,
         };
     }
     let room = due.len() + 1;
     let slot = &slots[place];
-    match Group::of(alloc, unique, room, slot.key.request()) {
-        Ok(mut group) => {
-            let short = fill(alloc, slots, due, server, &mut group);
+    match KeyLine::of(alloc, unique, room, slot.key.request()) {
+        Ok(mut line) => {
+            let short = fill(alloc, slots, due, server, &mut line);
             Gathered {
-                group: Some(group),
+                line: Some(line),
                 short,
             }
         }
         Err(_) => Gathered {
-            group: None,
+            line: None,
             short: true,
         },
     }
@@ -192,12 +194,12 @@ fn fill(
     slots: &[Slot],
     due: &mut VecDeque<Due>,
     server: usize,
-    group: &mut Group,
+    line: &mut KeyLine,
 ) -> bool
     requires slots { All (λ it. it.place < length slots.now) due.old.items }
-    ensures filled { (unique : Bool) (keys : List (List ℕ)) → IsGroupFor unique keys group.old
-        → HasFilled unique slots.now server result keys due.old.items group.old
-        due.new.items group.new }
+    ensures filled { (unique : Bool) (keys : List (List ℕ)) → IsKeyLineFor unique keys line.old
+        → HasFilled unique slots.now server result keys due.old.items line.old
+        due.new.items line.new }
     ensures room { deque_capacity due.new ≡ deque_capacity due.old }
 {
     let mut short = false;
@@ -205,7 +207,7 @@ fn fill(
         let Some(it) = due.pop_front() else {
             unreachable!();
         };
-        match put(alloc, slots, server, &it, group) {
+        match put(alloc, slots, server, &it, line) {
             Some(true) => {}
             Some(false) => due.push_back_reserved(it),
             None => {
@@ -219,16 +221,16 @@ fn fill(
 
 /// Puts a key into a line, if it is due at its server, and returns whether it had room, or `None`
 /// where memory ran out.
-fn put(alloc: Global, slots: &[Slot], server: usize, it: &Due, group: &mut Group) -> Option<bool>
+fn put(alloc: Global, slots: &[Slot], server: usize, it: &Due, line: &mut KeyLine) -> Option<bool>
     requires { it.now.place < length slots.now }
-    ensures { (unique : Bool) (keys : List (List ℕ)) → IsGroupFor unique keys group.old
-        → PutsAs unique slots.now server result keys it.now group.old group.new }
+    ensures { (unique : Bool) (keys : List (List ℕ)) → IsKeyLineFor unique keys line.old
+        → PutsAs unique slots.now server result keys it.now line.old line.new }
 {
     if !it.is_at(server) {
         return Some(false);
     }
     let slot = &slots[it.place];
-    match group.offer(alloc, it.place, slot.key.request()) {
+    match line.offer(alloc, it.place, slot.key.request()) {
         Ok(took) => Some(took),
         Err(_) => None,
     }

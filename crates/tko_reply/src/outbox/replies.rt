@@ -1,5 +1,7 @@
 //! The replies as they are put into the outbox.
-ghost use Rattle.std.specs.Prelude.{◌≡◌, ◌≤◌, ◌↔◌, ◌++◌, if◌then◌else◌, [], IfOk, MatchBool, IsSome, IsTrue, OnOk, OnErr, length, map, string_bytes, take, unwrap_or};
+ghost use Rattle.std.specs.Prelude.{◌≡◌, ◌≤◌, ◌↔◌, ◌++◌, if◌then◌else◌, [], IfOk, MatchBool};
+ghost use Rattle.std.specs.Prelude.{IsSome, IsTrue, OnOk, OnErr, length, map, string_bytes, take};
+ghost use Rattle.std.specs.Prelude.{unwrap_or};
 ghost use Rattle.std.specs.Option.{option_copied};
 ghost use Rattle.tko_reply.specs.Answering.{Extends};
 ghost use Rattle.tko_reply.specs.Cuts.{LooksSome};

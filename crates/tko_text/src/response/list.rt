@@ -10,7 +10,7 @@ ghost use Rattle.tko_text.specs.Responses.{IsHead, IsValueAwaited, Listing, is_a
 use super::line::split_line;
 use super::place::ValuePlace;
 use super::places::Places;
-use super::reader::{Head, keep_text, split_data, split_end, value_head, whole_line};
+use super::reader::{Head, head_in, keep_text, split_data, split_end, whole_line};
 use super::{Listed, ReadFault, Response};
 use crate::{Key, NoMemory};
 use bytes::Bytes;
@@ -168,12 +168,13 @@ fn awaited_head(
         × IsValueAwaited keys.now unique (keys_at had.now) (slice_index_or keys.now found.0 [])
         found.1.unique) }
 {
-    let word = SpacedWords::of(arguments).next()?;
+    let mut words = SpacedWords::of(arguments);
+    let word = words.next()?;
     let index = key_index(keys, next, word)?;
     if had.has(word) {
         return None;
     }
-    let Some(head) = value_head(arguments, word, unique) else {
+    let Some(head) = head_in(words, unique) else {
         return None;
     };
     Some((index, head))

@@ -13,6 +13,9 @@ use std::marker::Model;
 /// How many flags there are for each key.
 const FLAGS: usize = 8;
 
+/// How many places there is room for at first, at most.
+const ROOM: usize = 64;
+
 /// How many of its last bytes the mark of a key is made of.
 const MARKED: usize = 16;
 
@@ -45,7 +48,7 @@ impl Places {
         ensures { IfOk result (λ places. places ≡ []) }
     {
         let flags = keys.saturating_mul(FLAGS).max(1);
-        let places = Vec::new(alloc);
+        let places = Vec::with_capacity(alloc, keys.min(ROOM))?;
         let seen = vec![in alloc; false; flags]?;
         Ok(Places { places, seen })
     }

@@ -3,6 +3,7 @@ ghost use Rattle.std.specs.Prelude.{◌≡◌, ◌≢◌, ℕ, ◌+◌, ◌≤�
 ghost use Rattle.tko_text.specs.ResponseLines.{IsData, IsLineText};
 ghost use Rattle.tko_text.specs.ResponseFaults.{BodyFault, DataFault, EndFault, NoHead, Misses, ReadsOf, SplitsBody, SplitsEnd, line_response, value_line, version_response, word_response};
 ghost use Rattle.tko_text.specs.Heads.{IsPlaced, value_of};
+ghost use Rattle.tko_bytes.specs.Words.{words};
 ghost use Rattle.tko_text.specs.ResponseKinds.{kind_seen};
 ghost use Rattle.tko_text.specs.Responses.{IsCas, IsHead, ReadsResponse, Retrieval, block};
 
@@ -296,15 +297,24 @@ pub(super) fn value_head(arguments: &[u8], key: &[u8], unique: bool) -> Option<H
         × IsHead (value_line arguments.now) key.now head.flags head.size head.unique) }
 {
     let mut words = SpacedWords::of(arguments);
-    let found = words.next()?;
-    let flags = words.next()?;
-    let size = words.next()?;
-    if found != key {
+    if words.next()? != key {
         return None;
     }
+    head_in(words, unique)
+}
+
+/// What the words behind the key of a value's first line announce.
+pub(super) fn head_in(mut rest: SpacedWords, unique: bool) -> Option<Head>
+    ensures { (arguments key : List ℕ) → words arguments ≡ key ∷ rest.entry
+        → MatchOption result (NoHead (value_line arguments) key unique)
+        (λ head. (is_some head.unique ≡ unique)
+        × IsHead (value_line arguments) key head.flags head.size head.unique) }
+{
+    let flags = rest.next()?;
+    let size = rest.next()?;
     let flags = number(flags, FLAGS_LIMIT)? as u32;
     let size = number(size, DATA_LIMIT as u64)? as usize;
-    let unique = cas_number(words, unique)?;
+    let unique = cas_number(rest, unique)?;
     Some(Head {
         flags,
         size,

@@ -8,5 +8,7 @@ use Rattle.tko_reply.proofs.counting.replies_in.Goals as goal
 pub returns : goal.returns
 returns c =
     count_from_yields_List c.filter.result c.count.result c.count.ensures.ran
-    (YieldsList-from_filter _ is_replied (YieldsList-from_slice c.args.attempts.now cc) c.filter.ensures.closure (λ x r q k. search (rules, tests)))
+    (YieldsList-from_filter _ is_replied
+    (YieldsList-from_slice c.args.attempts.now cc) c.filter.ensures.closure
+    (λ x r q k. search (rules, tests)))
     ∙ length-filter is_replied c.args.attempts.now

@@ -13,4 +13,5 @@ pub returns-in_ok-split_first-in-Gets : goal.returns-in_ok-split_first-in-Gets
 returns-in_ok-split_first-in-Gets c =
     let is : c.args.request.now ≡ Gets c.in-Gets.keys = search rules in
     split_parts true _ _ c.in-Gets.keys c.split_first-in-Gets.new.self _ _ is refl
-    c.in_ok-split_first-in-Gets.ensures.parts c.in_ok-split_first-in-Gets.ensures.one c.of-in-Gets.ensures
+    c.in_ok-split_first-in-Gets.ensures.parts c.in_ok-split_first-in-Gets.ensures.one
+    c.of-in-Gets.ensures

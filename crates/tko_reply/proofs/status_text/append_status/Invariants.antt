@@ -5,5 +5,7 @@ use Rattle.tko_reply.proofs.status_text.append_status.Given as goal
 
 abbrev pub invariant-loop-server : goal.invariant-loop-server
 invariant-loop-server g l =
-    HasLines g.H.Health.steps (take l.server (map string_bytes l.addresses)) l.fn.health l.fn.out.items l.health l.out.items
+    HasLines g.H.Health.steps
+    (take l.server (map string_bytes l.addresses)) l.fn.health l.fn.out.items l.health
+    l.out.items
     × (g.H.Health.servers l.health ≡ length l.addresses)

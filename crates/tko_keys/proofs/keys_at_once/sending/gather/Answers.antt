@@ -1,12 +1,10 @@
-use Rattle.std.proofs.Common.{◌≡◌, true, false, sym, ap, ◌∙◌}
+use Rattle.std.proofs.Common.{◌≡◌, sym, ap, ◌∙◌}
 use Rattle.tko_keys.specs.Lines.{key_at, key_in_request}
 use Rattle.tko_keys.specs.KeysState.{KeySlot}
 use Rattle.tko_keys.proofs.DueLemmas.{gathered_none, gathered_short, gathered_some}
 use Rattle.tko_keys.proofs.LineLemmas.{key_read}
+use Rattle.tko_keys.proofs.FirstLemmas.{true_or_false}
 use Rattle.tko_keys.proofs.keys_at_once.sending.gather.Goals as goal
-
-true_or_false : true ≡ false → ⊥
-true_or_false e = cc
 
 pub returns-then-not-is_due-clause-gathered : goal.returns-then-not-is_due-clause-gathered
 returns-then-not-is_due-clause-gathered c =
@@ -14,10 +12,13 @@ returns-then-not-is_due-clause-gathered c =
 
 pub returns-in-Ok-clause-gathered : goal.returns-in-Ok-clause-gathered
 returns-in-Ok-clause-gathered c =
-    let read = key_read c.args.slots.now c.args.place c.index-slots-place.result c.requires.slot c.index-slots-place.is in
+    let read = key_read c.args.slots.now c.args.place c.index-slots-place.result c.requires.slot
+    c.index-slots-place.is in
     let key : key_in_request c.request.result.now ≡ key_at c.args.slots.now c.args.place =
-    ap key_in_request (c.request.ensures ∙ ap (λ (k : KeySlot). k.key.request) c.slot.view_is) ∙ read in
-    gathered_some key c.in-Ok.ensures.others (c.fill-short.ensures.filled c.args.unique _ c.in-Ok.ensures.group)
+    ap key_in_request (c.request.ensures ∙ ap (λ (k : KeySlot). k.key.request) c.slot.view_is)
+    ∙ read in
+    gathered_some key c.in-Ok.ensures.others
+    (c.fill-short.ensures.filled c.args.unique _ c.in-Ok.ensures.line)
 
 pub returns-in-Err-clause-gathered : goal.returns-in-Err-clause-gathered
 returns-in-Err-clause-gathered c = gathered_short

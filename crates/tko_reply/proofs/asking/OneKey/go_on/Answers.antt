@@ -8,4 +8,5 @@ pub returns-in-Whole-clause-ok : goal.returns-in-Whole-clause-ok
 returns-in-Whole-clause-ok c = complete _ c.in-Whole.is refl refl
 
 pub returns-in-Joined-clause-ok : goal.returns-in-Joined-clause-ok
-returns-in-Joined-clause-ok c = if_ok c.join_next.result c.join_next.ensures.ok (λ keyed on. continues_at c.in-Joined.is on)
+returns-in-Joined-clause-ok c =
+    if_ok c.join_next.result c.join_next.ensures.ok (λ keyed on. continues_at c.in-Joined.is on)

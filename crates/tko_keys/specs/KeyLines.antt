@@ -1,21 +1,23 @@
 -- A line that is put together for keys that are due at a server.
-use Rattle.std.specs.Prelude.{◌≡◌, ℕ, Bool, true, false, List, [], ◌∷◌, ◌++◌, Option, Some, None, map, unwrap_or}
+use Rattle.std.specs.Prelude.{◌≡◌, ℕ, Bool, true, false, List, [], ◌∷◌, ◌++◌, Option, Some, None}
+use Rattle.std.specs.Prelude.{map, unwrap_or}
 use Rattle.std.specs.Option.{option_map}
 use Rattle.tko_keys.specs.KeysState.{DueKey, KeySlot, LineSoFar, first_due}
 use Rattle.tko_keys.specs.declared.plan.Grouping.{Grouping}
 use Rattle.tko_keys.specs.declared.plan.Grouping.TheVariants.{ByServer}
-use Rattle.tko_keys.specs.Lines.{HasNoRoom, IsLineForKeys, IsLineFull, IsSentBy, Picks, key_at, line_length}
+use Rattle.tko_keys.specs.Lines.{HasNoRoom, IsLineForKeys, IsLineFull, IsSentBy, Picks, key_at}
+use Rattle.tko_keys.specs.Lines.{line_length}
 
 -- its request is one for these keys, and their bytes were counted
-pub record IsGroupFor (unique : Bool) (keys : List (List ℕ)) (group : LineSoFar) : Type 0 where
-  pub line : IsLineForKeys unique keys group.line
-  pub bytes : group.bytes ≡ line_length keys
+pub record IsKeyLineFor (unique : Bool) (keys : List (List ℕ)) (line : LineSoFar) : Type 0 where
+  pub request : IsLineForKeys unique keys line.request
+  pub bytes : line.bytes ≡ line_length keys
 
 -- the key of a place was put into a line for these keys
 pub record HasJoinedLine (unique : Bool) (keys : List (List ℕ)) (place : ℕ) (key : List ℕ)
     (old new : LineSoFar) : Type 0 where
   pub others : new.others ≡ old.others ++ place ∷ []
-  pub group : IsGroupFor unique (keys ++ key ∷ []) new
+  pub line : IsKeyLineFor unique (keys ++ key ∷ []) new
 
 -- it had no room there
 pub record HasFoundNoRoom (keys : List (List ℕ)) (key : List ℕ) (old new : LineSoFar) : Type 0 where
@@ -61,32 +63,32 @@ module _ (unique : Bool) (slots : List KeySlot) (server : ℕ) where
     pub places : List ℕ
     pub picks : Picks server due places stay
     pub others : new.others ≡ old.others ++ places
-    pub group : IsGroupFor unique (keys ++ map (key_at slots) places) new
+    pub line : IsKeyLineFor unique (keys ++ map (key_at slots) places) new
     pub full : short ≡ false → IsLineFull slots server (keys ++ map (key_at slots) places) stay
 
 -- the places of the keys of a line beside the first
 abbrev pub others_in : Option LineSoFar → List ℕ
-others_in group = unwrap_or (option_map (λ it. it.others) group) []
+others_in line = unwrap_or (option_map (λ it. it.others) line) []
 
 -- a line is for the key of a place and others
 abbrev pub IsLineOf : Bool → List KeySlot → ℕ → Option LineSoFar → Type 0
 IsLineOf unique slots place None = Unit {0}
-IsLineOf unique slots place (Some group) =
-    IsLineForKeys unique (key_at slots place ∷ map (key_at slots) group.others) group.line
+IsLineOf unique slots place (Some line) =
+    IsLineForKeys unique (key_at slots place ∷ map (key_at slots) line.others) line.request
 
 -- keys that are due at the server go with that of a place
 pub record HasGathered (unique : Bool) (slots : List KeySlot) (server place : ℕ)
-    (group : Option LineSoFar) (short : Bool) (due stay : List DueKey) : Type 0 where
-  pub picks : Picks server due (others_in group) stay
-  pub line : IsLineOf unique slots place group
+    (line : Option LineSoFar) (short : Bool) (due stay : List DueKey) : Type 0 where
+  pub picks : Picks server due (others_in line) stay
+  pub for_keys : IsLineOf unique slots place line
   pub full : short ≡ false
-      → IsLineFull slots server (key_at slots place ∷ map (key_at slots) (others_in group)) stay
+      → IsLineFull slots server (key_at slots place ∷ map (key_at slots) (others_in line)) stay
 
 -- what goes out with the key of a place that is due at the server: nothing, or the keys of a line
 pub record GoesWith (grouping : Grouping) (unique : Bool) (slots : List KeySlot) (server place : ℕ)
-    (group : Option LineSoFar) (short : Bool) (due stay : List DueKey) : Type 0 where
-  pub picks : Picks server due (others_in group) stay
-  pub by : IsSentBy grouping unique slots (place ∷ others_in group)
-      (option_map (λ it. it.line) group)
+    (line : Option LineSoFar) (short : Bool) (due stay : List DueKey) : Type 0 where
+  pub picks : Picks server due (others_in line) stay
+  pub by : IsSentBy grouping unique slots (place ∷ others_in line)
+      (option_map (λ it. it.request) line)
   pub full : short ≡ false → grouping ≡ ByServer
-      → IsLineFull slots server (key_at slots place ∷ map (key_at slots) (others_in group)) stay
+      → IsLineFull slots server (key_at slots place ∷ map (key_at slots) (others_in line)) stay
