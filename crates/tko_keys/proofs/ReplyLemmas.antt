@@ -1,5 +1,5 @@
 -- The reply to a request, once nothing of it is under way.
-use Rattle.std.proofs.Common.{◌≡◌, ◌≤◌, ◌+◌, ℕ, true, List, [], ◌∷◌, ◌++◌, length, append_assoc}
+use Rattle.std.proofs.Common.{◌≡◌, ◌≤◌, ◌+◌, ℕ, true, List, [], ◌∷◌, ◌++◌, length}
 use Rattle.std.proofs.Common.{Option, Some, None, Err, Ok, Result, refl, sym, ap, subst, ◌∙◌, arith}
 use Rattle.std.proofs.Common.{suc, zero, false, cond}
 use Rattle.std.specs.Prelude.{OnOk, flat_map, All, slice_get, unwrap_or}
@@ -14,22 +14,19 @@ use Rattle.tko_reply.specs.Answers.{IsKeyRouted}
 use Rattle.tko_reply.specs.Asking.{Joins}
 use Rattle.tko_reply.specs.Interactions.{Interaction}
 use Rattle.tko_reply.specs.Asking as asked
-use Rattle.tko_keys.specs.KeysState.{KeySlot, has_values, reply_at, reply_in, values_ahead}
+use Rattle.tko_keys.specs.KeysState.{KeySlot, has_values, list_in, reply_at, reply_in, values_ahead}
 use Rattle.tko_keys.specs.KeysState.{listed_by}
 use Rattle.tko_keys.specs.KeysSoFar.{IsKeyEnded}
 
 -- all values and `END` were put together
-pub finish_ends : {E : Type 0} (slots : List KeySlot) (ahead : ℕ) (old mid new : List ℕ)
+pub finish_ends : {E : Type 0} (slots : List KeySlot) (ahead : ℕ) (old new : List ℕ)
     (it : Result Unit E) → ahead ≡ values_ahead slots → length slots ≤ ahead
-    → mid ≡ old ++ flat_map (λ (slot : KeySlot). slot.outbox) slots
-    → OnOk it (new ≡ mid ++ end_line) → OnOk it (new ≡ old ++ reply_in slots)
-finish_ends slots ahead old mid new (Err e) is past values ends = tt
-finish_ends slots ahead old mid new (Ok u) is past values ends =
+    → OnOk it (new ≡ old ++ list_in slots) → OnOk it (new ≡ old ++ reply_in slots)
+finish_ends slots ahead old new (Err e) is past ends = tt
+finish_ends slots ahead old new (Ok u) is past ends =
     let none : slice_get slots (values_ahead slots) ≡ None =
     slice_get_past slots (values_ahead slots) (omega (arith, is, past)) in
-    ends ∙ ap (λ xs. xs ++ end_line) values
-    ∙ append_assoc old (flat_map (λ (slot : KeySlot). slot.outbox) slots) end_line
-    ∙ ap (λ (o : Option KeySlot). old ++ reply_at o slots) (sym none)
+    ends ∙ ap (λ (o : Option KeySlot). old ++ reply_at o slots) (sym none)
 
 -- what the outbox of an ended key holds
 abbrev pub Holds : RoutedKey → KeySlot → Type 0
