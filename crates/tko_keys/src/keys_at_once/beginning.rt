@@ -50,10 +50,7 @@ impl KeysAtOnce {
             return Err(Dropped::from(NoMemory));
         };
         let unique = self.unique;
-        let Ok(request) = next_request(alloc, unique, &mut self.first, &mut self.left) else {
-            self.lost = true;
-            return Err(Dropped::from(NoMemory));
-        };
+        let request = next_request(alloc, unique, &mut self.first, &mut self.left);
         let mut slot = Slot::of(alloc, request);
         let came = slot.begin(rt, alloc, health, config, &mut self.found);
         self.held = self.held.saturating_add(slot.outbox.len());
@@ -103,21 +100,18 @@ fn next_request(
     unique: bool,
     first: &mut Option<Request>,
     left: &mut KeysLeft,
-) -> Result<Request, NoMemory>
+) -> Request
     requires alone { IsAlone unique first.old }
     requires some { keys_with first.old left.old ≢ [] }
-    ensures ok { IfOk result (λ request. TakesNext unique (keys_with first.old left.old)
-        request (keys_with first.new left.new)) }
-    ensures err { OnErr result (keys_with first.new left.new ≡ keys_with first.old left.old) }
+    ensures takes { TakesNext unique (keys_with first.old left.old)
+        result (keys_with first.new left.new) }
     ensures alone { IsAlone unique first.new }
 {
     if let Some(request) = replace(first, None) {
-        return Ok(request);
+        return request;
     }
-    let mut keys = Vec::with_capacity(alloc, 1)?;
     let Some(key) = left.next() else {
         unreachable!();
     };
-    keys.push_reserved(key);
-    Ok(request_of(unique, Keys::new(keys)))
+    request_of(unique, Keys::one(alloc, key))
 }

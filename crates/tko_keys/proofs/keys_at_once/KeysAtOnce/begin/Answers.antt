@@ -47,7 +47,7 @@ returns-in-Err-clause-lost g c =
     let on = subst (λ (r : Request). GoesOn g.H.Health.steps c.args.health.now
     (λ calls. KeyLost c.args.config.now r calls c.in-Err.dropped) c.begin-came.new.health)
     (ap (λ (k : KeySlot). k.key.request) c.of-slot.ensures) c.in-Err.ensures.lost in
-    (begin_lost_ends c.begin-came.new.self c.self.view_is ready may c.in-Ok-next_request.ensures.ok
+    (begin_lost_ends c.begin-came.new.self c.self.view_is ready may c.next_request-request.ensures.takes
     on c.in-Err.ensures.err
     (c.push_reserved-in-Err.ensures.items
     ∙ ap (λ (xs : List KeySlot). xs ++ c.begin-came.new.self ∷ []) c.make_room.ensures.slots)
@@ -60,7 +60,7 @@ returns-in-Err-clause-ready g c =
     let on = subst (λ (r : Request). GoesOn g.H.Health.steps c.args.health.now
     (λ calls. KeyLost c.args.config.now r calls c.in-Err.dropped) c.begin-came.new.health)
     (ap (λ (k : KeySlot). k.key.request) c.of-slot.ensures) c.in-Err.ensures.lost in
-    (begin_lost_ends c.begin-came.new.self c.self.view_is ready may c.in-Ok-next_request.ensures.ok
+    (begin_lost_ends c.begin-came.new.self c.self.view_is ready may c.next_request-request.ensures.takes
     on c.in-Err.ensures.err
     (c.push_reserved-in-Err.ensures.items
     ∙ ap (λ (xs : List KeySlot). xs ++ c.begin-came.new.self ∷ []) c.make_room.ensures.slots)
@@ -108,7 +108,7 @@ invariant_of-self-in-Ok-came g c =
     let count : c.len.result ≡ length c.begin-came.new.self.outbox = search rules in
     let sum : c.saturating_add-self-inside.result ≡ min (c.self.inside.held + c.len.result)
     (2 ^ 64 - 1) = search rules in (
-      c.in-Ok-next_request.ensures.alone,
+      c.next_request-request.ensures.alone,
       c.values_ahead-self-inside.ensures ∙ ap values_ahead c.deref.ensures.value,
       places_of New after,
       held_push c.self.inside.slots.items c.push_reserved.new.self.items c.begin-came.new.self
@@ -145,7 +145,7 @@ invariant_of-self-in-Err g c =
     let ends = begin_lost_ends {slots' = c.push_reserved-in-Err.new.self.items} {due' =
     c.make_room.new.due.items} {sends' =
     c.make_room.new.sends.items} c.begin-came.new.self c.self.view_is ready may
-    c.in-Ok-next_request.ensures.ok on c.in-Err.ensures.err slots c.make_room.ensures.due
+    c.next_request-request.ensures.takes on c.in-Err.ensures.err slots c.make_room.ensures.due
     c.make_room.ensures.sends in
     let all : length (key_places_in c.make_room.new.due.items c.make_room.new.sends.items
     c.self.inside.came) ≡ length
@@ -157,7 +157,7 @@ invariant_of-self-in-Err g c =
     let count : c.len.result ≡ length c.begin-came.new.self.outbox = search rules in
     let sum : c.saturating_add-self-inside.result ≡ min (c.self.inside.held + c.len.result)
     (2 ^ 64 - 1) = search rules in (
-      c.in-Ok-next_request.ensures.alone,
+      c.next_request-request.ensures.alone,
       c.values_ahead-self-inside-in-Err.ensures ∙ ap values_ahead c.deref-in-Err.ensures.value,
       places_of _ ends.1,
       held_push c.self.inside.slots.items c.push_reserved-in-Err.new.self.items
