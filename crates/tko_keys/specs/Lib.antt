@@ -6,5 +6,6 @@ pub mod KeysDriven
 pub mod KeysSoFar
 pub mod KeysState
 pub mod Lines
+pub mod Queues
 pub mod SlotCalls
 pub mod Steps

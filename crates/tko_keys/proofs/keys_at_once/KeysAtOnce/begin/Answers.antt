@@ -36,9 +36,9 @@ returns-in-Ok-came-clause-ready g c =
     ∙ ap (λ (xs : List KeySlot). xs ++ c.begin-came.new.self ∷ []) c.make_room.ensures.slots)
     (c.note_step.ensures.due
     ∙ ap (λ ds. ds ++ due_by c.len-place.result (said_by c.in-Ok-came.step))
-    c.make_room.ensures.due
+    c.make_room.ensures.due.0
     ∙ ap (λ n. c.self.inside.due.items ++ due_by n (said_by c.in-Ok-came.step)) place)
-    c.make_room.ensures.sends refl refl refl (search rules)
+    c.make_room.ensures.sends.0 refl refl refl (search rules)
 
 pub returns-in-Err-clause-lost : goal.returns-in-Err-clause-lost
 returns-in-Err-clause-lost g c =
@@ -51,7 +51,7 @@ returns-in-Err-clause-lost g c =
     on c.in-Err.ensures.err
     (c.push_reserved-in-Err.ensures.items
     ∙ ap (λ (xs : List KeySlot). xs ++ c.begin-came.new.self ∷ []) c.make_room.ensures.slots)
-    c.make_room.ensures.due c.make_room.ensures.sends).0
+    c.make_room.ensures.due.0 c.make_room.ensures.sends.0).0
 
 pub returns-in-Err-clause-ready : goal.returns-in-Err-clause-ready
 returns-in-Err-clause-ready g c =
@@ -64,7 +64,7 @@ returns-in-Err-clause-ready g c =
     on c.in-Err.ensures.err
     (c.push_reserved-in-Err.ensures.items
     ∙ ap (λ (xs : List KeySlot). xs ++ c.begin-came.new.self ∷ []) c.make_room.ensures.slots)
-    c.make_room.ensures.due c.make_room.ensures.sends).1
+    c.make_room.ensures.due.0 c.make_room.ensures.sends.0).1
 
 pub invariant_of-self-in-Ok-came : goal.invariant_of-self-in-Ok-came
 invariant_of-self-in-Ok-came g c =
@@ -79,7 +79,7 @@ invariant_of-self-in-Ok-came g c =
     let due : c.note_step.new.due.items ≡ c.self.inside.due.items
     ++ due_by c.len-place.result said =
     c.note_step.ensures.due ∙ ap (λ ds. ds ++ due_by c.len-place.result said)
-    c.make_room.ensures.due in
+    c.make_room.ensures.due.0 in
     let New : KeysState = record {
       unique = c.self.inside.unique;
       left = [];
@@ -93,7 +93,7 @@ invariant_of-self-in-Ok-came g c =
     } in
     let after : AreUnderWay c.args.config.now New =
     begun_ready {new = New} c.begin-came.new.self ready may c.in-Ok-came.ensures.ok slots
-    (due ∙ ap (λ n. c.self.inside.due.items ++ due_by n said) place) c.make_room.ensures.sends refl
+    (due ∙ ap (λ n. c.self.inside.due.items ++ due_by n said) place) c.make_room.ensures.sends.0 refl
     refl refl refl in
     let all : length (key_places_in c.note_step.new.due.items c.make_room.new.sends.items
     c.self.inside.came)
@@ -102,7 +102,7 @@ invariant_of-self-in-Ok-came g c =
     ap (λ ds. length (key_places_in ds c.make_room.new.sends.items c.self.inside.came)) due
     ∙ ap (λ ss. length (key_places_in
     (c.self.inside.due.items ++ due_by c.len-place.result said) ss c.self.inside.came))
-    c.make_room.ensures.sends
+    c.make_room.ensures.sends.0
     ∙ said_out c.self.inside.due.items c.self.inside.sends.items c.self.inside.came
     c.len-place.result said in
     let count : c.len.result ≡ length c.begin-came.new.self.outbox = search rules in
@@ -145,15 +145,15 @@ invariant_of-self-in-Err g c =
     let ends = begin_lost_ends {slots' = c.push_reserved-in-Err.new.self.items} {due' =
     c.make_room.new.due.items} {sends' =
     c.make_room.new.sends.items} c.begin-came.new.self c.self.view_is ready may
-    c.next_request-request.ensures.takes on c.in-Err.ensures.err slots c.make_room.ensures.due
-    c.make_room.ensures.sends in
+    c.next_request-request.ensures.takes on c.in-Err.ensures.err slots c.make_room.ensures.due.0
+    c.make_room.ensures.sends.0 in
     let all : length (key_places_in c.make_room.new.due.items c.make_room.new.sends.items
     c.self.inside.came) ≡ length
     (key_places_in c.self.inside.due.items c.self.inside.sends.items c.self.inside.came) =
     ap (λ ds. length (key_places_in ds c.make_room.new.sends.items c.self.inside.came))
-    c.make_room.ensures.due
+    c.make_room.ensures.due.0
     ∙ ap (λ ss. length (key_places_in c.self.inside.due.items ss c.self.inside.came))
-    c.make_room.ensures.sends in
+    c.make_room.ensures.sends.0 in
     let count : c.len.result ≡ length c.begin-came.new.self.outbox = search rules in
     let sum : c.saturating_add-self-inside.result ≡ min (c.self.inside.held + c.len.result)
     (2 ^ 64 - 1) = search rules in (
@@ -164,6 +164,6 @@ invariant_of-self-in-Err g c =
           c.begin-came.new.self c.len.result c.self.inside.held c.saturating_add-self-inside.result
           slots c.self.invariant.3 count sum,
       c.self.invariant.4 ∙ sym all,
-      omega (arith, c.self.invariant.5, c.make_room.ensures.due_kept),
-      omega (arith, c.self.invariant.6, c.make_room.ensures.sends_kept),
+      omega (arith, c.self.invariant.5, c.make_room.ensures.due.1),
+      omega (arith, c.self.invariant.6, c.make_room.ensures.sends.1),
     )
