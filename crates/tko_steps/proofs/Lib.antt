@@ -13,6 +13,7 @@ pub mod FamilyLemmas
 pub mod JoinedLemmas
 pub mod KindLemmas
 pub mod KnownLemmas
+pub mod LawLemmas
 pub mod LegalLemmas
 pub mod LoserLemmas
 pub mod LostLemmas

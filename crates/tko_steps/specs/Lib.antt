@@ -3,6 +3,7 @@ pub mod Core
 pub mod Cost
 pub mod Invariant
 pub mod Kinds
+pub mod Law
 pub mod Legal
 pub mod Lost
 pub mod Runs

@@ -1,17 +1,13 @@
 //! The laws of a step, of every run, and of a thread alone.
-ghost use Rattle.std.specs.Prelude.{◌≡◌, ◌≢◌, ℕ, Some, All};
+ghost use Rattle.std.specs.Prelude.{◌≢◌, ℕ, Some, All};
 ghost use Rattle.tko_model.specs.Settings.{Settings};
 ghost use Rattle.tko_model.specs.Tracker.{opened};
 ghost use Rattle.tko_steps.specs.Alone.{InEveryRunAlone, IsIdleUnlessOf, ReplaysCalls};
-ghost use Rattle.tko_steps.specs.Core.{IsOnOneWord, Shared, abstract_of, settings_of};
-ghost use Rattle.tko_steps.specs.Cost.{IsShort};
-ghost use Rattle.tko_steps.specs.Invariant.{IsCore};
-ghost use Rattle.tko_steps.specs.Kinds.{HaveKinds, NoneIsLost};
-ghost use Rattle.tko_steps.specs.Legal.{ChangesAreOwn, ChangesAtMostOnce, IsChain, IsFullAtLimit, IsLegal, IsOwnersAnswer, IsUnderNumber, tracker_in};
-ghost use Rattle.tko_steps.specs.Lost.{ExpectsWhatItSaw, HasLostEachTry, LosesToOthers};
+ghost use Rattle.tko_steps.specs.Core.{IsOnOneWord, Shared, abstract_of};
+ghost use Rattle.tko_steps.specs.Law.{AreSoundCalls, AreSoundSteps, IsSoundState};
+ghost use Rattle.tko_steps.specs.Legal.{tracker_in};
 ghost use Rattle.tko_steps.specs.Runs.{InEveryRun, calls_of};
 ghost use Rattle.tko_steps.specs.declared.table.Action.{Action};
-ghost use Rattle.tko_steps.specs.Safe.{AreWithinLimits, CountSlots, HasDistinctNumbers, HasOneResponsible, OwnsItsMarks};
 
 use tko_model::Reply;
 
@@ -26,37 +22,9 @@ pub fn one_word_a_step()
 /// other threads and changed nothing; nothing but own steps of calls changes a mark, no two threads
 /// are responsible for one server, and soft marks never exceed the limit of their group.
 pub fn every_run()
-    // each call of the run
-    ensures legal { InEveryRun (λ s w. All (IsLegal s) (calls_of w.past)) }
-    ensures once { InEveryRun (λ s w.
-        All (λ call. ChangesAtMostOnce call.steps) (calls_of w.past)) }
-    ensures full { InEveryRun (λ s w. All (IsFullAtLimit s) (calls_of w.past)) }
-    ensures owners { InEveryRun (λ s w. All IsOwnersAnswer (calls_of w.past)) }
-    ensures numbers { InEveryRun (λ s w. All (IsUnderNumber w.core) (calls_of w.past)) }
-    ensures steps { InEveryRun (λ s w. All (IsShort s) (calls_of w.past)) }
-
-    // the kinds of step
-    ensures kinds { InEveryRun (λ s w. HaveKinds w.core) }
-    ensures sure { InEveryRun (λ s w. NoneIsLost w.past) }
-
-    // the tries of a call
-    ensures lost { InEveryRun (λ s w. All (HasLostEachTry s) (calls_of w.past)) }
-    ensures expected { InEveryRun (λ s w.
-        All (λ call. ExpectsWhatItSaw s call.steps) (calls_of w.past)) }
-    ensures others { InEveryRun LosesToOthers }
-
-    // the abstract states, one after another
-    ensures chain { InEveryRun (λ s w. IsChain (opened s).servers w.past (abstract_of w.core)) }
-    ensures changes { InEveryRun (λ s w. ChangesAreOwn w.past) }
-
-    // each state of the run
-    ensures responsible { InEveryRun (λ s w. HasOneResponsible w.core) }
-    ensures limit { InEveryRun (λ s w. AreWithinLimits s (abstract_of w.core)) }
-    ensures settings { InEveryRun (λ s w. settings_of w.core ≡ s) }
-    ensures core { InEveryRun (λ s w. IsCore w.core) }
-    ensures slots { InEveryRun (λ s w. CountSlots w.core) }
-    ensures owned { InEveryRun (λ s w. OwnsItsMarks w) }
-    ensures distinct { InEveryRun (λ s w. HasDistinctNumbers w.core) }
+    ensures calls { InEveryRun AreSoundCalls }
+    ensures steps { InEveryRun AreSoundSteps }
+    ensures state { InEveryRun IsSoundState }
 {}
 
 /// Over every list of turns in which one thread alone takes steps of calls: the sequential tracker,

@@ -37,7 +37,7 @@ returns-clause-legal c =
     let same = c.finish.ensures
     ∙ run_data_of-played c.args.schedule.now c.version.result c.in_ok-settings.settings c.in_ok-player.player
     c.version.ensures (c.in_ok-settings.ensures ∙ c.settings.ensures.value) c.in_ok-player.ensures in
-    subst IsLegalRun (sym same) (IsLegalRun-named_by plan ranges (c.every_run.ensures.legal plan.settings ranges))
+    subst IsLegalRun (sym same) (IsLegalRun-named_by plan ranges (λ turns. (c.every_run.ensures.calls plan.settings ranges turns).legal))
 
 pub returns-clause-answered : goal.returns-clause-answered
 returns-clause-answered c = runs_to_answers c.args.schedule.now (within_two _ _ c.settings.ensures.plan.settings)
