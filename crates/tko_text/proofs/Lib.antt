@@ -1,4 +1,5 @@
 mod GrammarRows
+mod ReadingRows
 pub mod BufferLemmas
 pub mod CuttingLemmas
 pub mod DataLemmas
@@ -18,6 +19,7 @@ pub mod PrintLemmas
 pub mod PrintedLemmas
 pub mod ReadAgainLemmas
 pub mod ReadingLemmas
+pub mod RequestKindLemmas
 pub mod ResponseBodyLemmas
 pub mod ResponseLaws
 pub mod ResponseLengthLemmas

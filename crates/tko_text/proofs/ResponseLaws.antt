@@ -11,7 +11,8 @@ use Rattle.tko_text.proofs.ResponseLineLemmas.{line_is_one, open_line_has_none}
 use Rattle.tko_text.proofs.ResponseWordLemmas.{says_is_one, says_no_head}
 use Rattle.tko_text.proofs.ResponseBodyLemmas.{head_is_one, data_is_one, cut_data_has_none, rest_is, body_data}
 use Rattle.tko_text.proofs.ResponseLemmas.Opening.{by_line, by_value, by_list}
-use Rattle.tko_text.proofs.ResponseLemmas.{Opening, opening, listed_alone, listed_uncut, cut_list_is_no_value, same_kind}
+use Rattle.tko_text.proofs.RequestKindLemmas.{cut_list_is_no_value, listed_alone, listed_uncut, same_kind}
+use Rattle.tko_text.proofs.ResponseLemmas.{Opening, opening}
 
 -- a line that announces a value goes on to one value
 body_is_one : (line : Split) (body other x y : List ℕ) (v w : Value) → IsBody line body v → IsBody line other w

@@ -10,10 +10,11 @@ use Rattle.tko_text.specs.ResponseLines.{Split, SplitsLine}
 use Rattle.tko_text.specs.Responses.{RequestKind, IsBody, IsHead, IsListing, IsResponse, NoResponse, Says, Suits, block, request_kind}
 use Rattle.tko_text.specs.ResponseFaults.{IsResponseOf, value_line}
 use Rattle.tko_text.specs.ResponseLengths.{IsLeastLength, IsLeastOf}
+use Rattle.tko_text.proofs.RequestKindLemmas.{IsSingle, none_listed, same_kind}
 use Rattle.tko_text.proofs.ResponseBodyLemmas.{head_is_one}
 use Rattle.tko_text.proofs.ResponseLineLemmas.{line_is_one}
 use Rattle.tko_text.proofs.ResponseLemmas.Opening.{by_line, by_value, by_list}
-use Rattle.tko_text.proofs.ResponseLemmas.{IsSingle, Opening, none_listed, opening, same_kind}
+use Rattle.tko_text.proofs.ResponseLemmas.{Opening, opening}
 use Rattle.tko_text.proofs.ResponseWordLemmas.{value_says_nothing}
 
 listing_ends : (front : List ℕ) (values : List Value) → IsListing front values → (before : List ℕ) × (front ≡ before ++ 10 ∷ [])

@@ -6,7 +6,8 @@ use Rattle.tko_text.specs.ResponseKinds.{kind_seen}
 use Rattle.tko_text.specs.ResponseLines.{Split}
 use Rattle.tko_text.proofs.ResponseLineLemmas.{arguments_are_text}
 use Rattle.tko_text.proofs.ResponseWordLemmas.{response_says}
-use Rattle.tko_text.proofs.ResponseLemmas.{code_single, line_missed, line_unsuited, reads_line, reads_value, value_fault, value_split}
+use Rattle.tko_text.proofs.RequestKindLemmas.{code_single}
+use Rattle.tko_text.proofs.ResponseLemmas.{line_missed, line_unsuited, reads_line, reads_value, value_fault, value_split}
 use Rattle.tko_text.proofs.response.reader.read_kind.Goals as goal
 
 pub returns-in_err-value-clause-reads : goal.returns-in_err-value-clause-reads
