@@ -75,3 +75,14 @@ WriteIs (Some stop) old len result = result ≡ Err (write_stop_of stop)
 WriteIs None old len result =
     IfOk result (λ count. count ≡ min old.greatest len)
     × IfErr result (λ stop. (stop ≡ Fault) × (old.room < length old.bytes + min old.greatest len))
+
+-- one call of a read into this room was made: it came to what the list of stops says, and changed
+-- nothing beside what a read changes
+pub record IsTapeRead (old : Tape) (room : ℕ) (result : Result ℕ Stop) (new : Tape) : Type 0 where
+  pub result_is : ReadIs (stop_of old) old room result
+  pub others : new ≡ with_read old new
+
+-- the same of a write of `len` bytes
+pub record IsTapeWrite (old : Tape) (len : ℕ) (result : Result ℕ Stop) (new : Tape) : Type 0 where
+  pub result_is : WriteIs (stop_of old) old len result
+  pub others : new ≡ with_write old new

@@ -93,7 +93,7 @@ fn first_stop_of(stops: &[(u64, Stop)], call: u64) -> Option<Stop>
 impl Inlet for Taped {
     ghost use Rattle.std.specs.Prelude.{refl};
     ghost use Rattle.std.proofs.Common.{ap, sym, ◌∙◌, append_assoc};
-    ghost use Rattle.tko_io.specs.Tape.{ReadIs, stop_of, with_read};
+    ghost use Rattle.tko_io.specs.Tape.{IsTapeRead};
 
     ghost gives = { λ a bytes b. a.left ≡ bytes ++ b.left };
 
@@ -109,13 +109,12 @@ impl Inlet for Taped {
         first ∙ ap (λ rest. bytes ++ rest) second ∙ sym (append_assoc bytes more z.left) };
 
     fn read<R: IoRuntime>(&mut self, rt: &R, buffer: &mut [u8]) -> Result<usize, Stop>
-        ensures result_is { ReadIs (stop_of self.old) self.old (length buffer.old) result }
         ensures within { IfOk result (λ count. count ≤ length buffer.new) }
         ensures gives { self.old.left ≡ moved result buffer.new ++ self.new.left }
         ensures ended { result ≡ Ok 0 → 0 < length buffer.new → self.new.left ≡ [] }
         ensures failures { self.new.failures ≡ self.old.failures + faults_in result }
         ensures idles { self.new.idles ≡ self.old.idles + idles_in result }
-        ensures others { self.new ≡ with_read self.old self.new }
+        ensures call { IsTapeRead self.old (length buffer.old) result self.new }
     {
         if let Some(stop) = self.next_call(rt) {
             return Err(self.counts.count(rt, stop));
@@ -130,7 +129,7 @@ impl Inlet for Taped {
 
 impl Outlet for Taped {
     ghost use Rattle.std.proofs.Common.{ap, sym, ◌∙◌, append_assoc, append-nil};
-    ghost use Rattle.tko_io.specs.Tape.{WriteIs, stop_of, with_write};
+    ghost use Rattle.tko_io.specs.Tape.{IsTapeWrite};
 
     ghost takes = { λ a bytes b. b.bytes ≡ a.bytes ++ bytes };
 
@@ -142,12 +141,11 @@ impl Outlet for Taped {
         second ∙ ap (λ front. front ++ more) first ∙ append_assoc x.bytes bytes more };
 
     fn write<R: IoRuntime>(&mut self, rt: &R, piece: &[u8]) -> Result<usize, Stop>
-        ensures result_is { WriteIs (stop_of self.old) self.old (length piece.now) result }
         ensures within { IfOk result (λ count. count ≤ length piece.now) }
         ensures takes { self.new.bytes ≡ self.old.bytes ++ moved result piece.now }
         ensures failures { self.new.failures ≡ self.old.failures + refusals_in piece.now result }
         ensures never_idle { result ≢ Err Stop.Idle }
-        ensures others { self.new ≡ with_write self.old self.new }
+        ensures call { IsTapeWrite self.old (length piece.now) result self.new }
     {
         match self.next_call(rt) {
             Some(Stop::Fault) => return Err(self.counts.count(rt, Stop::Fault)),
