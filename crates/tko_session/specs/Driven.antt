@@ -2,6 +2,7 @@
 -- health that it makes. A request is read, and then begun; a send is out for it; or the attempts at
 -- one of its keys ended.
 use Rattle.std.specs.Prelude.{◌≡◌, ℕ, ◌+◌, true, false, List, [], ◌++◌, length, map, take}
+use Rattle.std.specs.Prelude.{Result, OnOk, OnErr, IfErr}
 use Rattle.tko_model.specs.Records.{HealthItem}
 use Rattle.tko_text.specs.Reading.{Emits, NeedsMore}
 use Rattle.tko_text.specs.Requests.{fault_text}
@@ -57,6 +58,16 @@ finished old = record old { work = work.Between; requests = capped (old.requests
 -- the session where a request was dropped: nothing of its reply is left
 abbrev pub dropped : SessionState → SessionState
 dropped old = record old { outbox = take old.begin old.outbox; work = work.Between }
+
+-- the session where something of the request at work was to be recorded
+pub record StaysOrDrops (old : SessionState) (result : Result (Unit {0}) (List Attempt))
+    (new : SessionState) : Type 0 where
+  -- once it was recorded the session is as it was
+  pub same : OnOk result (new ≡ old)
+  -- where memory ran out it dropped the request
+  pub dropped : OnErr result (new ≡ dropped old)
+  -- .. of which no attempt is left whose marks are to be noted
+  pub attempts : IfErr result (λ attempts. attempts ≡ [])
 
 -- a send is out
 abbrev pub IsAwaiting : Work → Type 0

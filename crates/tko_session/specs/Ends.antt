@@ -1,6 +1,7 @@
 -- How a session ends, and how the steps of its loop do: what holds for each result.
-use Rattle.std.specs.Prelude.{◌≡◌, ◌≢◌, ◌<◌, ℕ, [], Bool, Result, Ok, Err}
-use Rattle.tko_io.specs.Io.{capped}
+use Rattle.std.specs.Prelude.{◌≡◌, ◌≢◌, ◌<◌, ℕ, Bool, List, [], Result, Ok, Err}
+use Rattle.tko_io.specs.Io.{Writes, WritesPart, capped}
+use Rattle.tko_io.specs.declared.io.Outlet.{Ghosts as OutletGhosts}
 use Rattle.tko_session.specs.declared.fault.SessionFault.{SessionFault}
 use Rattle.tko_session.specs.declared.fault.SessionFault.TheVariants.{Read, Write, LineTooLong, Memory}
 use Rattle.tko_session.specs.declared.step.Progress.{Progress}
@@ -9,6 +10,25 @@ use Rattle.tko_session.specs.declared.step.Report.{Report}
 use Rattle.tko_session.specs.Events.{idle_rounds}
 use Rattle.tko_session.specs.SessionState.{piece_progress}
 use Rattle.tko_session.specs.Served.{Context, Delivered, DeliveredPart, Delivering, DeliveryState, Served, Serving, StoppedByLine, StoppedByMemory, StoppedByRead, StoppedByWrite}
+
+module _ {O : Type 0} (outlet : OutletGhosts O) where
+  -- all of the text was written, and the writer did not fail
+  pub record TextWritten (old : O × ℕ) (text : List ℕ) (new : O × ℕ) : Type 0 where
+    pub all : Writes outlet.takes old text new
+    pub calm : outlet.failures new.0 ≡ outlet.failures old.0
+
+  -- the writer failed once the front of the text was written, and not all of it; the fault has the
+  -- number of bytes of the session that were written
+  pub record TextCut (old : O × ℕ) (text : List ℕ) (fault : SessionFault) (new : O × ℕ)
+      : Type 0 where
+    pub part : WritesPart outlet.takes old text new
+    pub failed : outlet.failures old.0 < outlet.failures new.0
+    pub counted : fault ≡ Write (capped new.1)
+
+  -- how the writing of a text ends
+  abbrev pub WriteEnds : O × ℕ → List ℕ → Result (Unit {0}) SessionFault → O × ℕ → Type 0
+  WriteEnds old text (Ok done) new = TextWritten old text new
+  WriteEnds old text (Err fault) new = TextCut old text fault new
 
 module _ {O W : Type 0} (ghosts : Delivering O W) where
   -- everything was written, no round was run at an idle turn, and the writer did not fail

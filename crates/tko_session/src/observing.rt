@@ -1,10 +1,10 @@
 //! What the driver of a session hands on of what the session did: each attempt is told as it ends,
 //! requests and trails are recorded, and the servers that attempts marked are going to be probed.
-ghost use Rattle.std.specs.Prelude.{◌≡◌, [], IfErr, IsSome, OnErr, OnOk, Some, length};
+ghost use Rattle.std.specs.Prelude.{◌≡◌, IsSome, OnErr, OnOk, Some, length};
 ghost use Rattle.tko_reply.specs.Interactions.{with_noted};
 ghost use Rattle.tko_reply.specs.TrailEvents.{Asked, Tried};
 ghost use Rattle.tko_reply.specs.declared.asking.OneKey.{OneKey};
-ghost use Rattle.tko_session.specs.Driven.{dropped};
+ghost use Rattle.tko_session.specs.Driven.{StaysOrDrops};
 ghost use Rattle.tko_session.specs.Working.{key_in};
 
 use crate::{Dropped, Parts, Session, Trails};
@@ -37,10 +37,8 @@ pub fn observe_request<R: IoRuntime, T: Trails>(
     requires { IsSome (key_in session.old.work) }
     ensures recorded { OnOk result ((one : OneKey) → key_in session.old.work ≡ Some one
         → T.records trails.old (Asked one.request) trails.new) }
-    ensures same { OnOk result (session.new ≡ session.old) }
-    ensures dropped { OnErr result (session.new ≡ dropped session.old) }
     ensures err { OnErr result (trails.new ≡ trails.old) }
-    ensures attempts { IfErr result (λ attempts. attempts ≡ []) }
+    ensures session { StaysOrDrops session.old result session.new }
 {
     match trails.request(rt, session.request()) {
         Ok(()) => Ok(()),
@@ -63,10 +61,8 @@ pub fn observe_trail<R: IoRuntime, H, L, T: Trails, C>(
     ensures recorded { OnOk result (T.records parts.old.trails (Tried trail) parts.new.trails) }
     ensures noted { parts.new
         ≡ record (with_noted trail parts.old) { trails = parts.new.trails } }
-    ensures same { OnOk result (session.new ≡ session.old) }
-    ensures dropped { OnErr result (session.new ≡ dropped session.old) }
     ensures err { OnErr result (parts.new.trails ≡ parts.old.trails) }
-    ensures attempts { IfErr result (λ attempts. attempts ≡ []) }
+    ensures session { StaysOrDrops session.old result session.new }
     ensures told { told.new ≡ 0 }
 {
     match record_trail(rt, parts, told, trail) {

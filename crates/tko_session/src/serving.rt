@@ -1,13 +1,12 @@
 //! One session over its two ends: a thin loop that moves bytes.
-ghost use Rattle.std.specs.Prelude.{◌≡◌, ◌≢◌, ◌<◌, [], IfErr, OnErr, OnOk, is_err, length};
+ghost use Rattle.std.specs.Prelude.{◌≡◌, ◌≢◌, ◌<◌, [], is_err, length};
 ghost use Rattle.tko_text.specs.Reading.{Never};
 ghost use Rattle.tko_prober.specs.Ghosts.{backend_ghosts};
 ghost use Rattle.tko_prober.specs.Probers.{NoneMarked};
-ghost use Rattle.tko_io.specs.Io.{Writes, WritesPart, capped};
 ghost use Rattle.tko_session.specs.Effects.{effects};
 ghost use Rattle.tko_session.specs.Events.{Rounded};
 ghost use Rattle.tko_session.specs.AnswerEnds.{IsSettled};
-ghost use Rattle.tko_session.specs.Ends.{DeliveryEnds, PieceEnds, SessionEnds};
+ghost use Rattle.tko_session.specs.Ends.{DeliveryEnds, PieceEnds, SessionEnds, WriteEnds};
 ghost use Rattle.tko_session.specs.Served.{context, delivering, delivery, serving};
 ghost use Rattle.tko_reply.specs.Answers.{Reaches};
 ghost use Rattle.tko_session.specs.SessionState.{fed_state, fresh_session};
@@ -174,13 +173,8 @@ fn write_replies<R: IoRuntime, O: Outlet>(
     requires between { session.old.work ≡ Between }
     ensures others { session.new ≡ record session.old { outbox = session.new.outbox } }
     ensures taken { session.new.outbox ≡ [] }
-    ensures all { OnOk result (Writes O.takes
-        (writer.old, written.old) session.old.outbox (writer.new, written.new)) }
-    ensures calm { OnOk result (O.failures writer.new ≡ O.failures writer.old) }
-    ensures part { OnErr result (WritesPart O.takes
-        (writer.old, written.old) session.old.outbox (writer.new, written.new)) }
-    ensures failed { OnErr result (O.failures writer.old < O.failures writer.new) }
-    ensures fault { IfErr result (λ fault. fault ≡ SessionFault.Write (capped written.new)) }
+    ensures ends { WriteEnds O.Outlet (writer.old, written.old) session.old.outbox result
+        (writer.new, written.new) }
 {
     for _ in rt.forever() {
         let replies = session.output();

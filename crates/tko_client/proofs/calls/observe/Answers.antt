@@ -17,4 +17,4 @@ pub returns-in-Err-observe_trail-clause-err : goal.returns-in-Err-observe_trail-
 returns-in-Err-observe_trail-clause-err g c =
     let told = c.in-Err-observe_trail.ensures in
     unrecorded_tried (client_ghosts {C = g.row.C.Denot} g.H.Health g.T.Trails) c.in-Tried.is
-    told.dropped told.attempts told.err told.noted c.observe_drop-in-Err-observe_trail.ensures
+    told.session.dropped told.session.attempts told.err told.noted c.observe_drop-in-Err-observe_trail.ensures

@@ -96,7 +96,7 @@ pub returns-in_err-observe_request-in-Began-clause-ends : goal.returns-in_err-ob
 returns-in_err-observe_request-in-Began-clause-ends g c =
     let p = err_from_is_err_and c.from_residual-in_err-observe_request-in-Began.result c.from_residual-in_err-observe_request-in-Began.ensures.1 in
     let told = c.in_err-observe_request-in-Began.ensures in
-    rw (p.1, p.2) (unrecorded_ends _ c.requires.settled.unowed (on_began c.in-Began.is c.loop.invariant.0) told.attempts told.dropped told.err)
+    rw (p.1, p.2) (unrecorded_ends _ c.requires.settled.unowed (on_began c.in-Began.is c.loop.invariant.0) told.session.attempts told.session.dropped told.err)
 
 pub returns-in_err-step-in-Began-clause-ends : goal.returns-in_err-step-in-Began-clause-ends
 returns-in_err-step-in-Began-clause-ends g c =
@@ -110,7 +110,7 @@ returns-in_err-step-in-Began-clause-ends g c =
     rw (p.1, p.2) (cut_ends attempts parts (taken_cut g.H.Health g.L.Links g.T.Trails g.C.Clock {old = snapshot c.args.session.now c.args.parts.now} {now = snapshot c.loop.session c.loop.parts} (map Told on.items) attempts parts
     c.requires.settled.unowed taken
     (told.recorded _ (ap (λ (s : SessionState). key_in s.work) taken.state))
-    (subst (λ (s : SessionState). WasDropped c.loop.parts.config s (map Told on.items) attempts c.next-in-Began.new.self) told.same on.is) (gains_told ghosts on.gains)))
+    (subst (λ (s : SessionState). WasDropped c.loop.parts.config s (map Told on.items) attempts c.next-in-Began.new.self) told.session.same on.is) (gains_told ghosts on.gains)))
 
 pub loop-preserved-in-Began : goal.loop-preserved-in-Began
 loop-preserved-in-Began g c =
@@ -122,7 +122,7 @@ loop-preserved-in-Began g c =
       taken_on g.H.Health g.L.Links g.T.Trails g.C.Clock {now = snapshot c.loop.session c.loop.parts} (map Told on.items)
           (with_health c.next-in-Began.new.health (record c.loop.parts { trails = c.observe_request.new.trails })) c.requires.settled.unowed c.requires.room taken
           (told.recorded _ (ap (λ (s : SessionState). key_in s.work) taken.state))
-          (subst (λ (s : SessionState). WentOn c.loop.parts.config s (map Told on.items) c.in_ok-step-in-Began.step c.next-in-Began.new.self) told.same on.is) (gains_told ghosts on.gains),
+          (subst (λ (s : SessionState). WentOn c.loop.parts.config s (map Told on.items) c.in_ok-step-in-Began.step c.next-in-Began.new.self) told.session.same on.is) (gains_told ghosts on.gains),
       then.ready,
       told_reach (recorded_reach c.loop.invariant.2) then.servers,
     )
@@ -132,7 +132,7 @@ returns-in_err-observe_trail-in-Tried-clause-ends g c =
     let p = err_from_is_err_and c.from_residual-in_err-observe_trail-in-Tried.result c.from_residual-in_err-observe_trail-in-Tried.ensures.1 in
     let told = c.in_err-observe_trail-in-Tried.ensures in
     rw (p.1, p.2) (cut_ends c.in_err-observe_trail-in-Tried.field-0.0 c.observe_trail.new.parts (unkept_cut g.H.Health g.L.Links g.T.Trails g.C.Clock {old = snapshot c.args.session.now c.args.parts.now} c.observe_trail.new.parts c.requires.settled.unowed (on_tried c.in-Tried.is c.loop.invariant.0)
-    told.attempts told.dropped (told.noted ∙ ap (λ t. record (with_noted c.in-Tried.trail c.loop.parts) { trails = t }) told.err)))
+    told.session.attempts told.session.dropped (told.noted ∙ ap (λ t. record (with_noted c.in-Tried.trail c.loop.parts) { trails = t }) told.err)))
 
 pub returns-in_err-observe_trail-in-Tried-clause-reach : goal.returns-in_err-observe_trail-in-Tried-clause-reach
 returns-in_err-observe_trail-in-Tried-clause-reach g c =
@@ -144,7 +144,7 @@ returns-in_err-step-in-Tried-clause-ends g c =
     let p = err_from_is_err_and c.from_residual-in_err-step-in-Tried.result c.from_residual-in_err-step-in-Tried.ensures.1 in
     let ghosts = parts_ghosts g.H.Health g.L.Links g.T.Trails g.C.Clock in
     let told = c.in_ok-observe_trail-in-Tried.ensures in
-    let past = past_told g.H.Health g.L.Links g.T.Trails g.C.Clock (on_tried c.in-Tried.is c.loop.invariant.0) told.recorded told.noted told.same in
+    let past = past_told g.H.Health g.L.Links g.T.Trails g.C.Clock (on_tried c.in-Tried.is c.loop.invariant.0) told.recorded told.noted told.session.same in
     let on = c.in_err-step-in-Tried.ensures.err in
     let parts = with_health c.next-in-Tried.new.health c.observe_trail.new.parts in
     let attempts = c.in_err-step-in-Tried.field-0.0 in
@@ -161,7 +161,7 @@ pub loop-preserved : goal.loop-preserved
 loop-preserved g c =
     let ghosts = parts_ghosts g.H.Health g.L.Links g.T.Trails g.C.Clock in
     let told = c.in_ok-observe_trail-in-Tried.ensures in
-    let past = past_told g.H.Health g.L.Links g.T.Trails g.C.Clock (on_tried c.in-Tried.is c.loop.invariant.0) told.recorded told.noted told.same in
+    let past = past_told g.H.Health g.L.Links g.T.Trails g.C.Clock (on_tried c.in-Tried.is c.loop.invariant.0) told.recorded told.noted told.session.same in
     let then = c.in_ok-step-in-Tried.ensures in
     let on = then.ok in (
       past_on g.H.Health g.L.Links g.T.Trails g.C.Clock (map Told on.items)

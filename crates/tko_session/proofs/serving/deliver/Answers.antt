@@ -20,11 +20,11 @@ returns-in_err-wrote-clause-ends g c =
     let wrote = c.in_err-wrote.ensures in
     let run = rw wrote.others at c.run_owed_round-rounded.ensures.round in
     let text = c.answer-answered.new.session.outbox in
-    let split = sym (take-append-drop wrote.part.count text) in
-    rw (p.1, p.2, wrote.fault) (writer_failed (snapshot c.answer-answered.new.session c.answer-answered.new.parts)
-    (take wrote.part.count text) (drop wrote.part.count text) c.answer-answered.result c.answer-answered.ensures.ends
-    (record { ran = run.ran }) c.requires.outbox split wrote.part.front (left_over wrote.part.count text wrote.part.within)
-    wrote.failed)
+    let split = sym (take-append-drop wrote.ends.part.count text) in
+    rw (p.1, p.2, wrote.ends.counted) (writer_failed (snapshot c.answer-answered.new.session c.answer-answered.new.parts)
+    (take wrote.ends.part.count text) (drop wrote.ends.part.count text) c.answer-answered.result c.answer-answered.ensures.ends
+    (record { ran = run.ran }) c.requires.outbox split wrote.ends.part.front (left_over wrote.ends.part.count text wrote.ends.part.within)
+    wrote.ends.failed)
 
 pub returns-in_err-wrote-clause-begun : goal.returns-in_err-wrote-clause-begun
 returns-in_err-wrote-clause-begun g c = λ begun.
@@ -42,7 +42,7 @@ returns-in_err-progress-clause-ends g c =
     let p = err_from_is_err_and c.from_residual-in_err-progress.result c.from_residual-in_err-progress.ensures.1 in
     let wrote = c.in_ok-wrote.ensures in
     let run = rw wrote.others at c.run_owed_round-rounded.ensures.round in
-    rw (p.1, p.2) (short_in_items c.in_err-progress.ensures.ends (record { ran = run.ran }) c.requires.outbox wrote.all wrote.calm)
+    rw (p.1, p.2) (short_in_items c.in_err-progress.ensures.ends (record { ran = run.ran }) c.requires.outbox wrote.ends.all wrote.ends.calm)
 
 pub returns-in_err-progress-clause-begun : goal.returns-in_err-progress-clause-begun
 returns-in_err-progress-clause-begun g c = λ begun.
@@ -60,7 +60,7 @@ returns-in_err-rounded-clause-ends g c =
     let p = err_from_is_err_and c.from_residual-in_err-rounded.result c.from_residual-in_err-rounded.ensures.1 in
     let wrote = c.in_ok-wrote.ensures in
     let run = rw wrote.others at c.in_err-rounded.ensures.round in
-    rw (p.1, p.2) (short_in_round c.in_ok-progress.ensures.ends (record { ran = run.ran }) c.requires.outbox wrote.all wrote.calm)
+    rw (p.1, p.2) (short_in_round c.in_ok-progress.ensures.ends (record { ran = run.ran }) c.requires.outbox wrote.ends.all wrote.ends.calm)
 
 pub returns-in_err-rounded-clause-begun : goal.returns-in_err-rounded-clause-begun
 returns-in_err-rounded-clause-begun g c = λ begun.
@@ -77,7 +77,7 @@ pub returns-clause-ends : goal.returns-clause-ends
 returns-clause-ends g c =
     let wrote = c.in_ok-wrote.ensures in
     let run = rw wrote.others at c.in_ok-rounded.ensures.round in
-    all_of c.in_ok-progress.ensures.ends (record { ran = run.ran }) c.requires.outbox wrote.all wrote.calm
+    all_of c.in_ok-progress.ensures.ends (record { ran = run.ran }) c.requires.outbox wrote.ends.all wrote.ends.calm
     (c.run_owed_round-rounded.ensures.none_owed
     ∙ ap (λ (s : SessionState). record s { owes = false }) (wrote.others ∙ ap (λ out. record c.answer-answered.new.session { outbox = out }) wrote.taken))
 

@@ -1,4 +1,4 @@
-use Rattle.std.proofs.Common.{◌≡◌, ◌∙◌, ap, subst}
+use Rattle.std.proofs.Common.{◌≡◌, ◌∙◌, ap, rules, subst}
 use Rattle.tko_reply.specs.Answering.{Extends}
 use Rattle.tko_session.specs.SessionState.{SessionState}
 use Rattle.tko_session.specs.Working.{Between}
@@ -11,13 +11,17 @@ loop-init g c =
     written_none g.O.Outlet g.met.O.Outlet.goes_on (writing c.args.session.now c.args.writer.now c.args.written.now)
     (g.met.O.Outlet.nothing c.args.writer.now)
 
-pub returns-then-not-write_all-clause-part : goal.returns-then-not-write_all-clause-part
-returns-then-not-write_all-clause-part g c =
+pub returns-then-not-write_all-clause-ends : goal.returns-then-not-write_all-clause-ends
+returns-then-not-write_all-clause-ends g c =
     let state = c.loop.session in
     let between : state.work ≡ Between = ap (λ (s : SessionState). s.work) c.loop.invariant.others ∙ c.requires.between in
     let front = subst (Extends c.output-replies.result.now) (outgoing_between state between) c.output-replies.ensures.front in
-    written_part g.O.Outlet g.met.O.Outlet.goes_on c.output-replies.result.now c.loop.invariant front
-    (c.if-not-write_all.ensures.part)
+    record {
+      part = written_part g.O.Outlet g.met.O.Outlet.goes_on c.output-replies.result.now c.loop.invariant front
+          (c.if-not-write_all.ensures.part);
+      failed = search rules;
+      counted = search rules;
+    }
 
 pub sent-requires : goal.sent-requires
 sent-requires g c =
