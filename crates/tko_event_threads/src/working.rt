@@ -1,7 +1,8 @@
 //! A worker: one thread that serves many clients at once.
 ghost use Rattle.std.specs.Prelude.{◌≡◌, IfOk, length, replicate};
 ghost use Rattle.tko_health.specs.Seating.{Leaves};
-ghost use Rattle.tko_event_threads.specs.Worked.{HasEventWorked, IsEventEquipped};
+ghost use Rattle.tko_event_threads.specs.Worked.{HasEventWorked, IsEventEquipped, IsMeansOf};
+ghost use Rattle.tko_event_threads.specs.Worked.{IsWaysOf};
 
 use crate::accounted::Accounted;
 use crate::host::EventHost;
@@ -42,6 +43,16 @@ pub struct EventParts<'a, S, K> {
     pub keys: KeyPlan,
     pub way_in: LoopEntry<K>,
     pub first_ask: FirstAsk,
+}
+
+/// What a worker works with beside its loop.
+#[derive(Drop)]
+struct Means<'a, S> {
+    seating: &'a S,
+    config: Config,
+    probers: Probers,
+    account: Account<'a>,
+    log: WorkerLog,
 }
 
 /// What the loop of a worker is made of.
@@ -97,47 +108,66 @@ fn work<N: Origin<H> + Opening, R: IoRuntime, H: Health + Drop, S: Seating<Worke
         (Leaves H.steps (S.gives_back parts.entry.seating.now)) N.opened result }
 {
     let requests = AtomicU64::new(0);
-    let EventParts {
-        seating,
-        config,
-        probers,
-        account,
-        log,
-        servers,
-        limits,
-        keys,
-        way_in,
-        first_ask,
-    } = parts;
-    let counts = no_counts(alloc, config.addresses().len());
-    let health: SeatHealth<N, H> = SeatHealth::new(seating.seat(idle));
-    let trails: Accounted<'_, '_, N> = Accounted::new(Metered::new(log, &requests), account);
+    let (means, ways) = split_parts(parts);
+    let counts = no_counts(alloc, means.config.addresses().len());
+    let health: SeatHealth<N, H> = SeatHealth::new(means.seating.seat(idle));
+    let metered = Metered::new(means.log, &requests);
+    let trails: Accounted<'_, '_, N> = Accounted::new(metered, means.account);
     let Ok((links, rounds)) = counts else {
-        return end(rt, seating, health, trails, 0, true);
+        return end(rt, means.seating, health, trails, 0, true);
     };
+    let shared = shared_parts(health, links, means.probers, trails, means.config);
+    let lent = Lent::new(rt, alloc, shared);
+    serve_all(rt, alloc, means.seating, lent, rounds, ways)
+}
+
+/// What a worker works with beside its loop, and what its loop is made of.
+fn split_parts<'a, S, K>(parts: EventParts<'a, S, K>) -> (Means<'a, S>, Ways<K>)
+    ensures means { IsMeansOf parts.entry result.0 }
+    ensures ways { IsWaysOf parts.entry result.1 }
+{
+    let means = Means {
+        seating: parts.seating,
+        config: parts.config,
+        probers: parts.probers,
+        account: parts.account,
+        log: parts.log,
+    };
+    let ways = Ways {
+        servers: parts.servers,
+        limits: parts.limits,
+        keys: parts.keys,
+        way_in: parts.way_in,
+        first_ask: parts.first_ask,
+    };
+    (means, ways)
+}
+
+/// What the sessions of a worker's clients share.
+fn shared_parts<'a, 'm, N: Origin<H> + Opening, H: Health + Drop>(
+    health: SeatHealth<N, H>,
+    links: Sends,
+    probers: Probers,
+    trails: Accounted<'a, 'm, N>,
+    config: Config,
+) -> Parts<SeatHealth<N, H>, Sends, Accounted<'a, 'm, N>, ()>
+    ensures health { result.backend.health ≡ health }
+    ensures links { result.backend.links ≡ links }
+    ensures probers { result.backend.probers ≡ probers }
+    ensures trails { result.trails ≡ trails.entry }
+    ensures config { result.config ≡ config }
+{
     let backend = Backend {
         health,
         links,
         probers,
         clock: (),
     };
-    let lent = Lent::new(
-        rt,
-        alloc,
-        Parts {
-            backend,
-            trails,
-            config,
-        },
-    );
-    let ways = Ways {
-        servers,
-        limits,
-        keys,
-        way_in,
-        first_ask,
-    };
-    serve_all(rt, alloc, seating, lent, rounds, ways)
+    Parts {
+        backend,
+        trails,
+        config,
+    }
 }
 
 /// No server was sent to or probed yet.
