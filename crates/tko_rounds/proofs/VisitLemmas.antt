@@ -7,6 +7,7 @@ use Rattle.tko_links.specs.Links.{part_of}
 use Rattle.tko_mux.specs.Awaits.{no_memory}
 use Rattle.tko_mux.specs.Lines.{LineState}
 use Rattle.tko_mux.specs.declared.asking.Came.{Came}
+use Rattle.tko_port.specs.Ports.{PortState}
 use Rattle.tko_port.specs.declared.peer.Peer.{Peer}
 use Rattle.tko_prober.specs.declared.backend.Backend.{Backend}
 use Rattle.tko_prober.specs.declared.prober.Prober.{Prober}
@@ -15,13 +16,12 @@ use Rattle.tko_prober.specs.declared.prober.ProberStage.TheVariants.{Ended, Out,
 use Rattle.tko_prober.specs.Halves.{IsOut, IsResult}
 use Rattle.tko_prober.specs.Probers.{prober_of}
 use Rattle.tko_reply.specs.declared.parts.Parts.{Parts}
-use Rattle.tko_client.specs.Steps.{HasStayed}
 use Rattle.tko_worker.specs.Turns.{probed_at}
-use Rattle.tko_worker.specs.Workers.{WorkerState}
-use Rattle.tko_rounds.specs.Parts.{DueAt, with_begun, with_probing}
-use Rattle.tko_rounds.specs.Probes.{IsNoneOut, IsOneOut, ProbesState, count_of, is_counted_probe, probed_of_came, with_out}
+use Rattle.tko_worker.specs.declared.event_worker.EventWorker.{EventWorker}
+use Rattle.tko_rounds.specs.Parts.{DueAt, OnlyProbingChanges, with_begun, with_probing}
+use Rattle.tko_rounds.specs.Probes.{IsNoneOut, IsOneOut, IsProbeCounted, ProbesState, count_of, is_counted_probe, probed_of_came, with_out}
 use Rattle.tko_rounds.specs.Rounds.{HasNext, HasProbeCome, HasProbeTaken, Lost, ProbeTaking, RoundState, asked, unasked}
-use Rattle.tko_rounds.specs.Workers.{KeepsClients}
+use Rattle.tko_rounds.specs.Workers.{KeepsServers}
 
 -- a probe is out, or is not
 stage_out : (stage : ProberStage) → (stage ≡ Out) ⊎ (stage ≡ Out → ⊥)
@@ -62,24 +62,45 @@ module _ {H L C : Type 0} where
       → new ≡ record old { health = new.health; probers = new.probers }
   probing_of old new (links, clock) = rw (sym links, sym clock) refl
 
--- the parts stay but for health and probers, and then again
-pub probing_on : {H L T C : Type 0} (one two three : Parts H L T C) → two ≡ with_probing two.backend one
-    → three ≡ with_probing three.backend two → three ≡ with_probing three.backend one
-probing_on one two three first second = second ∙ ap (with_probing three.backend) first
+module _ {H T C : Type 0} {servers : H → ℕ} where
+  -- where only health and probers change, all sessions stay ready
+  pub only_probing : (old new : Parts H (List ℕ) T C) → new ≡ with_probing new.backend old
+      → servers new.backend.health ≡ servers old.backend.health → OnlyProbingChanges servers old new
+  only_probing old new is same = record {
+    others = is;
+    stays = record {
+      config = ap (λ (p : Parts H (List ℕ) T C). p.config) is;
+      health = same;
+      links = ap (λ (p : Parts H (List ℕ) T C). length p.backend.links) is;
+    };
+  }
 
--- so they do where probers begin
-pub probing_begun : {H L T C : Type 0} (moment : ℕ) (old new : Parts H L T C) → new ≡ with_begun moment old
-    → new ≡ with_probing new.backend old
-probing_begun {H} {L} {T} {C} moment old new is =
-    subst (λ (p : Parts H L T C). p ≡ with_probing p.backend old) (sym is) refl
+  -- nothing changes
+  pub probing_none : (at : Parts H (List ℕ) T C) → OnlyProbingChanges servers at at
+  probing_none at = only_probing at at refl refl
 
-pub keeps_on : {L S P : Type 0} {one two three : WorkerState L S P} → KeepsClients one two → KeepsClients two three
-    → KeepsClients one three
-keeps_on first second = record {
-  slots = second.slots ∙ first.slots;
-  touched = second.touched ∙ first.touched;
-  spent = second.spent ∙ first.spent;
-  ends = second.ends ∙ first.ends;
+  -- they change, and then again
+  pub probing_on : {one two three : Parts H (List ℕ) T C} → OnlyProbingChanges servers one two
+      → OnlyProbingChanges servers two three → OnlyProbingChanges servers one three
+  probing_on {one} {two} {three} first second =
+      only_probing one three (second.others ∙ ap (with_probing three.backend) first.others)
+      (second.stays.health ∙ first.stays.health)
+
+  -- so they do where probers begin
+  pub probing_begun : (moment : ℕ) (old new : Parts H (List ℕ) T C) → new ≡ with_begun moment old
+      → OnlyProbingChanges servers old new
+  probing_begun moment old new is =
+      subst (λ (p : Parts H (List ℕ) T C). OnlyProbingChanges servers old p) (sym is)
+      (only_probing old (with_begun moment old) refl refl)
+
+-- there are as many servers as before, and then again
+pub servers_on : {L S P : Type 0} {port : L → PortState} {one two three : ProbesState × EventWorker L S P}
+    → KeepsServers port one two → KeepsServers port two three → KeepsServers port one three
+servers_on first second = record {
+  out = second.out ∙ first.out;
+  lines = second.lines ∙ first.lines;
+  sockets = λ server. second.sockets server ∙ first.sockets server;
+  count = second.count ∙ first.count;
 }
 
 pub probed_same : {L : Type 0} (old new : List (Peer L)) (at : ℕ) → slice_get new at ≡ slice_get old at
@@ -92,12 +113,11 @@ module _ {H L C : Type 0} {health : HealthGhosts H} where
       (arrived : ℕ → Option Came) (mid probes : ProbesState) (it : ProbeTaking)
       → IsOneOut old.probes server → old.came server ≡ Some it.came → arrived server ≡ None
       → ((at : ℕ) → at ≢ server → arrived at ≡ old.came at) → HasProbeCome health moment old.backend server it backend
-      → mid ≡ with_out server false old.probes
-      → ((at : ℕ) → count_of probes at ≡ count_of mid at + part_of (is_counted_probe it.came) server at)
-      → length probes.counts ≡ length mid.counts → probes.out ≡ mid.out → limit ≡ old.limit → lines ≡ old.lines
+      → mid ≡ with_out server false old.probes → IsProbeCounted it.came server mid probes → limit ≡ old.limit
+      → lines ≡ old.lines
       → HasProbeTaken health moment old server
       (record { limit = limit; backend = backend; lines = lines; came = arrived; probes = probes })
-  took_one moment server old limit backend lines arrived mid probes it out has gone others come is_mid counted counts outs is_limit is_lines = record {
+  took_one moment server old limit backend lines arrived mid probes it out has gone others come is_mid counted is_limit is_lines = record {
     it = Some it;
     takes = (
       out,
@@ -106,9 +126,9 @@ module _ {H L C : Type 0} {health : HealthGhosts H} where
         left = gone;
         same = others;
         has_come = come;
-        counted = λ at. counted at ∙ ap (λ (p : ProbesState). count_of p at + part_of (is_counted_probe it.came) server at) is_mid;
-        counts = counts ∙ ap (λ (p : ProbesState). length p.counts) is_mid;
-        out = outs ∙ ap (λ (p : ProbesState). p.out) is_mid;
+        counted = λ at. counted.counted at ∙ ap (λ (p : ProbesState). count_of p at + part_of (is_counted_probe it.came) server at) is_mid;
+        counts = counted.counts ∙ ap (λ (p : ProbesState). length p.counts) is_mid;
+        out = counted.out ∙ ap (λ (p : ProbesState). p.out) is_mid;
         others = rw (is_limit, is_lines) refl;
       },
     );
@@ -134,12 +154,3 @@ module _ {H L C : Type 0} {health : HealthGhosts H} where
     };
     memory = refl;
   }
-
--- what stays of the parts, for all clients
-pub stayed_of : {H T C : Type 0} {servers : H → ℕ} (old new : Parts H (List ℕ) T C) → new ≡ with_probing new.backend old
-    → servers new.backend.health ≡ servers old.backend.health → HasStayed servers old new
-stayed_of {H} {T} {C} old new is same = record {
-  config = ap (λ (p : Parts H (List ℕ) T C). p.config) is;
-  health = same;
-  links = ap (λ (p : Parts H (List ℕ) T C). length p.backend.links) is;
-}

@@ -1,6 +1,6 @@
 -- What an event-driven worker knows of its probes, and what came of one.
-use Rattle.std.specs.Prelude.{◌≡◌, ℕ, Bool, true, false, List, Some, count_by, replicate, slice_get, slice_index, slice_set}
-use Rattle.tko_links.specs.Links.{is_counted}
+use Rattle.std.specs.Prelude.{◌≡◌, ℕ, ◌+◌, Bool, true, false, List, Some, count_by, length, replicate, slice_get, slice_index, slice_set}
+use Rattle.tko_links.specs.Links.{is_counted, part_of}
 use Rattle.tko_mux.specs.declared.asking.Came.{Came}
 use Rattle.tko_prober.specs.declared.prober.Probed.{Probed}
 use Rattle.tko_prober.specs.Probers.{probed_of}
@@ -42,3 +42,12 @@ probed_of_came came = probed_of (result_of came)
 -- whether a probe that came to this counts as one
 abbrev pub is_counted_probe : Came → Bool
 is_counted_probe came = is_counted (result_of came)
+
+-- a probe of this server that came to this counts as one, if it does; nothing else is counted, and
+-- the same probes are out
+pub record IsProbeCounted (came : Came) (server : ℕ) (old new : ProbesState) : Type 0 where
+  pub counted : (at : ℕ)
+      → count_of new at ≡ count_of old at + part_of (is_counted_probe came) server at
+  pub uncounted : is_counted_probe came ≡ false → new ≡ old
+  pub counts : length new.counts ≡ length old.counts
+  pub out : new.out ≡ old.out

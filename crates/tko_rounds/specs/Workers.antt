@@ -1,12 +1,13 @@
 -- A round as its worker sees it.
-use Rattle.std.specs.Prelude.{◌≡◌, ℕ, List}
+use Rattle.std.specs.Prelude.{◌≡◌, ℕ, List, length}
 use Rattle.tko_health.specs.declared.health.Health.{Ghosts as HealthGhosts}
+use Rattle.tko_port.specs.Ports.{PortState}
 use Rattle.tko_port.specs.Talks.{Readiness}
 use Rattle.tko_reply.specs.declared.parts.Parts.{Parts}
 use Rattle.tko_client.specs.Clients.{IsReadyAfter}
 use Rattle.tko_client.specs.declared.client.EventClient.{EventClient}
 use Rattle.tko_client.specs.declared.lent.Lent.{Lent}
-use Rattle.tko_worker.specs.Turns.{probed_at}
+use Rattle.tko_worker.specs.Turns.{probed_at, socket_at}
 use Rattle.tko_worker.specs.Workers.{WorkerState}
 use Rattle.tko_worker.specs.declared.event_worker.EventWorker.{EventWorker}
 use Rattle.tko_rounds.specs.Probes.{ProbesState}
@@ -33,9 +34,11 @@ module _ {L S R H T C : Type 0} {health : HealthGhosts H} where
     probes = probes;
   }
 
--- the clients stay, who of them is to be served in this turn and in the next, and how they ended
-pub record KeepsClients {L S P : Type 0} (old new : WorkerState L S P) : Type 0 where
-  pub slots : new.mux.roster.slots ≡ old.mux.roster.slots
-  pub touched : new.touched ≡ old.touched
-  pub spent : new.spent ≡ old.spent
-  pub ends : new.ends ≡ old.ends
+-- there are as many servers as before, each with its socket
+pub record KeepsServers {L S P : Type 0} (port : L → PortState)
+    (old new : ProbesState × EventWorker L S P) : Type 0 where
+  pub out : length new.0.out ≡ length old.0.out
+  pub lines : length new.1.clients.mux.lines ≡ length old.1.clients.mux.lines
+  pub sockets : (server : ℕ)
+      → socket_at port new.1.peers.items server ≡ socket_at port old.1.peers.items server
+  pub count : length new.1.peers.items ≡ length old.1.peers.items

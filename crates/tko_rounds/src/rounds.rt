@@ -1,9 +1,8 @@
 //! What a worker knows of its probes.
-ghost use Rattle.std.specs.Prelude.{◌≡◌, ◌<◌, ◌+◌, ℕ, false, IfOk, Some, count_by, length, slice_get, slice_set, sum_by};
+ghost use Rattle.std.specs.Prelude.{◌≡◌, ◌<◌, IfOk, Some, count_by, length, slice_get, slice_set, sum_by};
 ghost use Rattle.std.specs.Bool.{OnFalse, OnTrue};
 ghost use Rattle.tko_io.specs.Io.{capped};
-ghost use Rattle.tko_links.specs.Links.{part_of};
-ghost use Rattle.tko_rounds.specs.Probes.{count_of, is_counted_probe, no_probes, outs, with_out};
+ghost use Rattle.tko_rounds.specs.Probes.{IsProbeCounted, count_of, no_probes, outs, with_out};
 
 use crate::coming::is_probe;
 use std::alloc::Global;
@@ -101,11 +100,7 @@ impl Rounds {
     /// reaches.
     pub(crate) fn count<R: Wait>(&mut self, rt: &R, server: usize, came: &Came)
         requires { server < length self.old.out }
-        ensures counted { (at : ℕ) → count_of self.new at
-            ≡ count_of self.old at + part_of (is_counted_probe came.now) server at }
-        ensures uncounted { is_counted_probe came.now ≡ false → self.new ≡ self.old }
-        ensures counts { length self.new.counts ≡ length self.old.counts }
-        ensures out { self.new.out ≡ self.old.out }
+        ensures { IsProbeCounted came.now server self.old self.new }
     {
         if !is_probe(came) {
             return;

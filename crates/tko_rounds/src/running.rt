@@ -1,15 +1,13 @@
 //! A round.
-ghost use Rattle.std.specs.Prelude.{◌≡◌, ◌<◌, ◌+◌, ℕ, false, is_err, length, min};
+ghost use Rattle.std.specs.Prelude.{◌≡◌, ◌<◌, is_err, length, min};
 ghost use Rattle.std.specs.Bool.{OnFalse, OnTrue};
-ghost use Rattle.tko_client.specs.Steps.{HasStayed};
 ghost use Rattle.tko_client.specs.Clients.{awaits, talk_of};
-ghost use Rattle.tko_links.specs.Links.{part_of};
-ghost use Rattle.tko_worker.specs.Turns.{socket_at};
+ghost use Rattle.tko_worker.specs.Changes.{KeepsClients};
 ghost use Rattle.tko_worker.specs.Workers.{IsInOrder};
-ghost use Rattle.tko_rounds.specs.Parts.{TakesResult, with_probing};
-ghost use Rattle.tko_rounds.specs.Probes.{count_of, is_counted_probe};
+ghost use Rattle.tko_rounds.specs.Parts.{OnlyProbingChanges, TakesResult};
+ghost use Rattle.tko_rounds.specs.Probes.{IsProbeCounted};
 ghost use Rattle.tko_rounds.specs.Rounds.{AreEventVisited, HasNext, HasNoProbes, HasProbeTaken, IsEventRound, IsEventVisited, round_servers};
-ghost use Rattle.tko_rounds.specs.Workers.{KeepsClients, is_ready, parts_in, state_of};
+ghost use Rattle.tko_rounds.specs.Workers.{KeepsServers, is_ready, parts_in, state_of};
 
 use crate::Rounds;
 use crate::visits::{BeginProbers, FindDue, TakeResult};
@@ -49,18 +47,10 @@ impl Rounds {
             (state_of self.old worker.old) (is_err result) (state_of self.new worker.new) }
         ensures idle { HasNoProbes (parts_in worker.old.clients).backend.probers self.old
             → (self.new ≡ self.old) × (worker.new ≡ worker.old) }
-        ensures stays { HasStayed H.servers (parts_in worker.old.clients)
+        ensures parts { OnlyProbingChanges H.servers (parts_in worker.old.clients)
             (parts_in worker.new.clients) }
-        ensures parts { parts_in worker.new.clients
-            ≡ with_probing (parts_in worker.new.clients).backend (parts_in worker.old.clients) }
         ensures clients { KeepsClients worker.old.clients worker.new.clients }
-        ensures out { length self.new.out ≡ length self.old.out }
-        ensures lines { length worker.new.clients.mux.lines ≡ length worker.old.clients.mux.lines }
-        ensures health { H.servers (parts_in worker.new.clients).backend.health
-            ≡ H.servers (parts_in worker.old.clients).backend.health }
-        ensures sockets { (server : ℕ) → socket_at L.port worker.new.peers.items server
-            ≡ socket_at L.port worker.old.peers.items server }
-        ensures count { length worker.new.peers.items ≡ length worker.old.peers.items }
+        ensures servers { KeepsServers L.port (self.old, worker.old) (self.new, worker.new) }
         ensures order { IsInOrder (awaits, talk_of, L.port) is_ready worker.new.clients }
     {
         if self.is_idle(&worker.clients) {
@@ -98,16 +88,10 @@ impl Rounds {
         requires order { IsInOrder (awaits, talk_of, L.port) is_ready worker.old.clients }
         ensures round { IsEventRound H.Health moment due (state_of self.old worker.old) result
             (state_of self.new worker.new) }
-        ensures parts { parts_in worker.new.clients
-            ≡ with_probing (parts_in worker.new.clients).backend (parts_in worker.old.clients) }
+        ensures parts { OnlyProbingChanges H.servers (parts_in worker.old.clients)
+            (parts_in worker.new.clients) }
         ensures clients { KeepsClients worker.old.clients worker.new.clients }
-        ensures out { length self.new.out ≡ length self.old.out }
-        ensures lines { length worker.new.clients.mux.lines ≡ length worker.old.clients.mux.lines }
-        ensures health { H.servers (parts_in worker.new.clients).backend.health
-            ≡ H.servers (parts_in worker.old.clients).backend.health }
-        ensures sockets { (server : ℕ) → socket_at L.port worker.new.peers.items server
-            ≡ socket_at L.port worker.old.peers.items server }
-        ensures count { length worker.new.peers.items ≡ length worker.old.peers.items }
+        ensures servers { KeepsServers L.port (self.old, worker.old) (self.new, worker.new) }
         ensures order { IsInOrder (awaits, talk_of, L.port) is_ready worker.new.clients }
     {
         worker.clients.visit(BeginProbers { moment });
@@ -126,16 +110,10 @@ impl Rounds {
         ensures visits { AreEventVisited H.Health moment due (state_of self.old worker.old)
             (round_servers H.Health (state_of self.old worker.old)) result
             (state_of self.new worker.new) }
-        ensures parts { parts_in worker.new.clients
-            ≡ with_probing (parts_in worker.new.clients).backend (parts_in worker.old.clients) }
+        ensures parts { OnlyProbingChanges H.servers (parts_in worker.old.clients)
+            (parts_in worker.new.clients) }
         ensures clients { KeepsClients worker.old.clients worker.new.clients }
-        ensures out { length self.new.out ≡ length self.old.out }
-        ensures lines { length worker.new.clients.mux.lines ≡ length worker.old.clients.mux.lines }
-        ensures health { H.servers (parts_in worker.new.clients).backend.health
-            ≡ H.servers (parts_in worker.old.clients).backend.health }
-        ensures sockets { (server : ℕ) → socket_at L.port worker.new.peers.items server
-            ≡ socket_at L.port worker.old.peers.items server }
-        ensures count { length worker.new.peers.items ≡ length worker.old.peers.items }
+        ensures servers { KeepsServers L.port (self.old, worker.old) (self.new, worker.new) }
         ensures order { IsInOrder (awaits, talk_of, L.port) is_ready worker.new.clients }
     {
         let mut short = false;
@@ -172,16 +150,10 @@ impl Rounds {
         requires order { IsInOrder (awaits, talk_of, L.port) is_ready worker.old.clients }
         ensures visit { IsEventVisited H.Health moment due
             (state_of self.old worker.old) server result (state_of self.new worker.new) }
-        ensures parts { parts_in worker.new.clients
-            ≡ with_probing (parts_in worker.new.clients).backend (parts_in worker.old.clients) }
+        ensures parts { OnlyProbingChanges H.servers (parts_in worker.old.clients)
+            (parts_in worker.new.clients) }
         ensures clients { KeepsClients worker.old.clients worker.new.clients }
-        ensures out { length self.new.out ≡ length self.old.out }
-        ensures lines { length worker.new.clients.mux.lines ≡ length worker.old.clients.mux.lines }
-        ensures health { H.servers (parts_in worker.new.clients).backend.health
-            ≡ H.servers (parts_in worker.old.clients).backend.health }
-        ensures sockets { (server : ℕ) → socket_at L.port worker.new.peers.items server
-            ≡ socket_at L.port worker.old.peers.items server }
-        ensures count { length worker.new.peers.items ≡ length worker.old.peers.items }
+        ensures servers { KeepsServers L.port (self.old, worker.old) (self.new, worker.new) }
         ensures order { IsInOrder (awaits, talk_of, L.port) is_ready worker.new.clients }
     {
         self.take(worker, server, moment);
@@ -201,16 +173,10 @@ impl Rounds {
         requires order { IsInOrder (awaits, talk_of, L.port) is_ready worker.old.clients }
         ensures taken { HasProbeTaken H.Health moment (state_of self.old worker.old) server
             (state_of self.new worker.new) }
-        ensures parts { parts_in worker.new.clients
-            ≡ with_probing (parts_in worker.new.clients).backend (parts_in worker.old.clients) }
+        ensures parts { OnlyProbingChanges H.servers (parts_in worker.old.clients)
+            (parts_in worker.new.clients) }
         ensures clients { KeepsClients worker.old.clients worker.new.clients }
-        ensures out { length self.new.out ≡ length self.old.out }
-        ensures lines { length worker.new.clients.mux.lines ≡ length worker.old.clients.mux.lines }
-        ensures health { H.servers (parts_in worker.new.clients).backend.health
-            ≡ H.servers (parts_in worker.old.clients).backend.health }
-        ensures sockets { (server : ℕ) → socket_at L.port worker.new.peers.items server
-            ≡ socket_at L.port worker.old.peers.items server }
-        ensures count { length worker.new.peers.items ≡ length worker.old.peers.items }
+        ensures servers { KeepsServers L.port (self.old, worker.old) (self.new, worker.new) }
         ensures order { IsInOrder (awaits, talk_of, L.port) is_ready worker.new.clients }
     {
         if !self.is_out(server) {
@@ -240,13 +206,10 @@ impl Rounds {
         ensures next { HasNext H.Health moment due (state_of self.old worker.old) server result
             (state_of self.new worker.new) }
         ensures peers { worker.new.peers ≡ worker.old.peers }
-        ensures parts { parts_in worker.new.clients
-            ≡ with_probing (parts_in worker.new.clients).backend (parts_in worker.old.clients) }
+        ensures parts { OnlyProbingChanges H.servers (parts_in worker.old.clients)
+            (parts_in worker.new.clients) }
         ensures clients { KeepsClients worker.old.clients worker.new.clients }
-        ensures out { length self.new.out ≡ length self.old.out }
-        ensures lines { length worker.new.clients.mux.lines ≡ length worker.old.clients.mux.lines }
-        ensures health { H.servers (parts_in worker.new.clients).backend.health
-            ≡ H.servers (parts_in worker.old.clients).backend.health }
+        ensures servers { KeepsServers L.port (self.old, worker.old) (self.new, worker.new) }
         ensures order { IsInOrder (awaits, talk_of, L.port) is_ready worker.new.clients }
     {
         if self.is_out(server) {
@@ -286,11 +249,7 @@ impl Rounds {
         requires order { IsInOrder (awaits, talk_of, L.port) is_ready clients.old }
         ensures takes { TakesResult H.Health moment server came (parts_in clients.old) result
             (parts_in clients.new) }
-        ensures counted { (at : ℕ) → count_of self.new at
-            ≡ count_of self.old at + part_of (is_counted_probe came) server at }
-        ensures uncounted { is_counted_probe came ≡ false → self.new ≡ self.old }
-        ensures counts { length self.new.counts ≡ length self.old.counts }
-        ensures out { self.new.out ≡ self.old.out }
+        ensures counted { IsProbeCounted came server self.old self.new }
         ensures lines { clients.new.mux.lines ≡ clients.old.mux.lines }
         ensures limit { clients.new.mux.limit ≡ clients.old.mux.limit }
         ensures clients { KeepsClients clients.old clients.new }

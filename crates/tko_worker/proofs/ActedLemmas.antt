@@ -27,6 +27,7 @@ use Rattle.tko_port.specs.declared.settling.End.{End}
 use Rattle.tko_port.specs.Guests.{IsGuestCall}
 use Rattle.tko_worker.specs.declared.ends.EndCounts.{EndCounts}
 use Rattle.tko_worker.specs.Acts.{HasActed, HaveActed, RosterAndEnds}
+use Rattle.tko_worker.specs.Changes.{OnlyLinesChange}
 use Rattle.tko_worker.specs.Counts.{MuxAndEnds}
 use Rattle.tko_worker.specs.Servers.{HasLeftNext, HasResponseTaken, ListsReached}
 use Rattle.tko_worker.specs.Workers.{DropEnds, IsClientOpened, ListEnds, Sight, WorkerState}
@@ -59,10 +60,11 @@ worker_acted_on sight one two three first second =
     acted_on sight (one.mux.roster, one.ends) (two.mux.roster, two.ends)
     (three.mux.roster, three.ends) first second
 
-pub worker_same : {L T P : Type 0} (sight : Sight L T) (old new : WorkerState L T P)
-    → new.mux.roster ≡ old.mux.roster → new.ends ≡ old.ends → HasActed sight old new
-worker_same sight old new roster ends =
-    acted_same sight (old.mux.roster, old.ends) (new.mux.roster, new.ends) roster ends
+-- nobody, where only the lines to the servers change
+pub lines_acted : {L T P : Type 0} (sight : Sight L T) (old new : WorkerState L T P)
+    → OnlyLinesChange old new → HasActed sight old new
+lines_acted sight old new only =
+    acted_same sight (old.mux.roster, old.ends) (new.mux.roster, new.ends) only.roster only.ends
 
 -- where memory ran out for a request, its session is called once more
 send_acted : {L T P : Type 0} (sight : Sight L T) (asks_for : Guest L T → Option Request)

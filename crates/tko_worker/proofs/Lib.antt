@@ -1,5 +1,6 @@
 pub mod ActedLemmas
 mod AheadLemmas
+pub mod ChangesLemmas
 mod CountLemmas
 mod KeptLemmas
 mod ListedLemmas

@@ -1,7 +1,7 @@
 -- What came from a server, and where there is no response yet.
 use Rattle.std.proofs.Common.{◌≡◌, ℕ, Bool, true, false, List, refl, sym, ap, subst, ◌∙◌, Option, Some, None}
 use Rattle.std.specs.Bool.{OnFalse, OnTrue}
-use Rattle.std.specs.Prelude.{not, Result, Ok, Err, slice_get}
+use Rattle.std.specs.Prelude.{not, Result, Ok, Err, option_map, slice_get}
 use Rattle.tko_text.specs.declared.request.Request.{Request}
 use Rattle.tko_text.specs.declared.response.Response.{Response}
 use Rattle.tko_pipe.specs.declared.fates.ShutCause.{ShutCause}
@@ -15,13 +15,16 @@ use Rattle.tko_mux.specs.declared.client.Client.{Client}
 use Rattle.tko_mux.specs.declared.mux.delivery.Delivery.{Delivery}
 use Rattle.tko_mux.specs.Asks.{AskingActs}
 use Rattle.tko_mux.specs.Lines.{LineState, first_on, line_by}
-use Rattle.tko_mux.specs.Muxes.{GoesToClient, IsOnLine, IsResponseRead, MuxState, ReadsFirst, ReadsOn, TellEnds, WaitsFor}
+use Rattle.tko_mux.specs.Muxes.{GoesToClient, IsOnLine, IsResponseRead, MuxState, ReadsFirst, ReadsOn, TellEnds, WaitsFor, line_at}
 use Rattle.tko_port.specs.Peers.{delivery_in}
+use Rattle.tko_port.specs.declared.peer.Peer.{Peer}
+use Rattle.tko_port.specs.Ports.{PortState}
+use Rattle.tko_port.specs.Wires.{IsOpen}
 use Rattle.tko_port.specs.declared.guest.Guest.{Guest}
 use Rattle.tko_port.specs.declared.guest.SharedParts.{SharedParts}
 use Rattle.tko_port.specs.declared.guest.Turned.{Turned}
 use Rattle.tko_port.specs.Guests.{IsGuestCall}
-use Rattle.tko_worker.specs.Servers.{AwaitsMore, HasLeftNext, HasNoResponse, HasResponseTaken, ListsReached, pipe_at}
+use Rattle.tko_worker.specs.Servers.{AwaitsMore, HasLeftNext, HasNoResponse, HasResponseTaken, IsDrained, IsNothingRead, ListsReached, pipe_at}
 use Rattle.tko_worker.specs.declared.ends.EndCounts.{EndCounts}
 use Rattle.tko_worker.specs.Counts.{MuxAndEnds}
 use Rattle.tko_worker.specs.Workers.{Sight, WorkerState}
@@ -153,10 +156,28 @@ none_unless sight asks_for waits_for old new server due result false none taken 
     none_taken sight asks_for waits_for old new server due
     (subst (λ r. HasResponseTaken sight asks_for waits_for old server due r new) none taken)
 
-pub none_kept : {L T P : Type 0} (waits_for : WaitsFor (Guest L T))
-    (old new : WorkerState L T P) (server : ℕ) (late : Bool) → OnFalse late (new ≡ old)
-    → HasNoResponse waits_for old.mux server
-    → OnTrue (not late) (HasNoResponse waits_for new.mux server)
-none_kept waits_for old new server true kept none = tt
-none_kept {L} {T} {P} waits_for old new server false kept none =
-    subst (λ (w : WorkerState L T P). HasNoResponse waits_for w.mux server) (sym kept) none
+-- what was drained stays so where nothing can be read
+pub drained_by : {L T P : Type 0} (waits_for : WaitsFor (Guest L T)) (old new : WorkerState L T P)
+    (server : ℕ) (port : Option PortState) → IsOpen (line_at old.mux server)
+    → HasNoResponse waits_for old.mux server → IsNothingRead old server port new
+    → IsDrained waits_for new.mux server port
+drained_by {L} {T} {P} waits_for old new server port is_open taken nothing = record {
+  is_open = subst (λ (w : WorkerState L T P). IsOpen (line_at w.mux server)) (sym nothing.kept)
+      is_open;
+  cannot = nothing.cannot;
+  taken = subst (λ (w : WorkerState L T P). HasNoResponse waits_for w.mux server)
+      (sym nothing.kept) taken;
+}
+
+-- and where nothing is late
+pub still_drained : {L T P : Type 0} (port : L → PortState) (waits_for : WaitsFor (Guest L T))
+    (old new : WorkerState L T P) (was now : Peer L) (server : ℕ) (late : Bool)
+    → OnFalse late ((new ≡ old) × (now ≡ was))
+    → IsDrained waits_for old.mux server (option_map port was.socket)
+    → OnTrue (not late) (IsDrained waits_for new.mux server (option_map port now.socket))
+still_drained port waits_for old new was now server true kept drained = tt
+still_drained {L} {T} {P} port waits_for old new was now server false kept drained =
+    subst (λ (w : WorkerState L T P). IsDrained waits_for w.mux server
+    (option_map port now.socket)) (sym kept.0)
+    (subst (λ (p : Peer L). IsDrained waits_for old.mux server (option_map port p.socket))
+    (sym kept.1) drained)

@@ -1,4 +1,5 @@
 pub mod Acts
+pub mod Changes
 pub mod Connections
 pub mod Counts
 pub mod Servers

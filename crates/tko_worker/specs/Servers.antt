@@ -13,12 +13,14 @@ use Rattle.tko_mux.specs.declared.client.Client.{Client}
 use Rattle.tko_mux.specs.declared.mux.delivery.Delivery.{Delivery}
 use Rattle.tko_mux.specs.declared.mux.delivery.Delivery.TheVariants.{Probed, Reached}
 use Rattle.tko_mux.specs.Lines.{LineState}
-use Rattle.tko_mux.specs.Muxes.{IsLent, IsResponseRead, MuxState, TellEnds, WaitsFor}
+use Rattle.tko_mux.specs.Muxes.{IsLent, IsResponseRead, MuxState, TellEnds, WaitsFor, line_at}
 use Rattle.tko_port.specs.Peers.{delivery_in}
 use Rattle.tko_port.specs.declared.guest.Guest.{Guest}
 use Rattle.tko_port.specs.declared.guest.SharedParts.{SharedParts}
 use Rattle.tko_port.specs.declared.guest.Turned.{Turned}
 use Rattle.tko_port.specs.Guests.{IsGuestCall}
+use Rattle.tko_port.specs.Ports.{PortState}
+use Rattle.tko_port.specs.Wires.{CannotRead, IsOpen}
 use Rattle.tko_worker.specs.Counts.{MuxAndEnds}
 use Rattle.tko_worker.specs.Workers.{ListEnds, Sight, WorkerState}
 
@@ -45,6 +47,20 @@ abbrev pub HasNoResponse : {S P : Type 0} → WaitsFor S → MuxState S P → �
 HasNoResponse waits_for mux server = (pipe : PipeState)
     → pipe_at (slice_get mux.lines server) ≡ Some pipe → pipe.link ≡ Connected
     → AwaitsMore waits_for mux.roster server (slice_get pipe.waiting 0) pipe
+
+-- all that came from a server was read and taken: nobody is left of a connection that was shut,
+-- nothing can be read, and no whole response is unread
+pub record IsDrained {S P : Type 0} (waits_for : WaitsFor S) (mux : MuxState S P) (server : ℕ)
+    (port : Option PortState) : Type 0 where
+  pub is_open : IsOpen (line_at mux server)
+  pub cannot : CannotRead (line_at mux server) port
+  pub taken : HasNoResponse waits_for mux server
+
+-- nothing can be read from a server, and nothing changed
+pub record IsNothingRead {L T P : Type 0} (old : WorkerState L T P) (server : ℕ)
+    (port : Option PortState) (new : WorkerState L T P) : Type 0 where
+  pub kept : new ≡ old
+  pub cannot : CannotRead (line_at new.mux server) port
 
 -- the client that something reached, if it reached one, is to be served in this turn
 abbrev pub ListsReached : {L T P : Type 0} → Sight L T → MuxAndEnds L T P

@@ -1,5 +1,6 @@
 -- What is counted where one client is served.
-use Rattle.std.specs.Prelude.{◌≡◌, ℕ, Option, is_some}
+use Rattle.std.specs.Prelude.{◌≡◌, ℕ, Bool, Option, is_some}
+use Rattle.std.specs.Bool.{OnFalse, OnTrue}
 use Rattle.tko_text.specs.declared.request.Request.{Request}
 use Rattle.tko_roster.specs.Rosters.{session_at}
 use Rattle.tko_mux.specs.declared.mux.delivery.Done.{Done}
@@ -54,3 +55,12 @@ OnceEnds sight asks_for old number due AsksMore new =
     ((done : Done Turned) × AsksOn sight asks_for number due old.0 done new.0) × (new.1 ≡ old.1)
 OnceEnds sight asks_for old number due Later new =
     WasServed sight asks_for old.0 number due new.0 × (new.1 ≡ old.1)
+
+-- what serving a client came to, as long as it asked a server and could go on: it rests; or it is
+-- to be served again later, and no end was counted
+pub record SpentEnds {L T P : Type 0} (sight : Sight L T) (asks_for : Guest L T → Option Request)
+    (old : MuxAndEnds L T P) (number due : ℕ) (is_spent : Bool) (new : MuxAndEnds L T P)
+    : Type 0 where
+  pub rests : OnFalse is_spent (RestAt sight new.0.roster.slots number)
+  pub served : OnTrue is_spent (WasServed sight asks_for old.0 number due new.0)
+  pub none : OnTrue is_spent (new.1 ≡ old.1)

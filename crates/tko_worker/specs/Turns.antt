@@ -1,5 +1,5 @@
 -- A turn of events of a worker as a whole: its clients and its servers.
-use Rattle.std.specs.Prelude.{◌≡◌, ◌≢◌, ◌<◌, ◌≤◌, nat_le, if◌then◌else◌, ℕ, false, List, [], Option, Some, None, slice_get}
+use Rattle.std.specs.Prelude.{◌≡◌, ◌≢◌, ◌<◌, ◌≤◌, nat_le, if◌then◌else◌, ℕ, Bool, false, List, [], Option, Some, None, slice_get}
 use Rattle.std.specs.Bool.{OnFalse, OnTrue}
 use Rattle.std.specs.Option.{option_and_then, option_map}
 use Rattle.tko_pipe.specs.declared.link.Link.TheVariants.{Connected, Connecting}
@@ -91,3 +91,9 @@ pub record AreAhead {L : Type 0} (port : L → PortState) (now : ℕ) (lines : L
   pub rests : OnTrue it.rests (ServersRest port now lines peers count)
   pub due : IsNextDue lines count it.due
   pub wants : OnFalse it.wants (NoneWanted port lines peers count)
+
+-- nothing is left for the next turn: all that came from the servers was taken, and no client is
+-- served again
+pub record IsNothingLeft (is_behind : Bool) (spent : List ℕ) : Type 0 where
+  pub taken : is_behind ≡ false
+  pub none : spent ≡ []

@@ -1,13 +1,14 @@
 //! A worker as a whole, from one turn of events to the next.
-ghost use Rattle.std.specs.Prelude.{◌≡◌, ◌≢◌, ◌<◌, [], None, Some, IfErr, IfOk, false, length, option_copied, option_map};
+ghost use Rattle.std.specs.Prelude.{◌≡◌, ◌≢◌, ◌<◌, [], None, Some, IfErr, IfOk, length, option_copied, option_map};
 ghost use Rattle.std.specs.Bool.{OnFalse, OnTrue};
 ghost use Rattle.std.specs.List.{count_by};
 ghost use Rattle.tko_mux.specs.Muxes.{line_at};
 ghost use Rattle.tko_port.specs.Guests.{noting};
 ghost use Rattle.tko_worker.specs.Acts.{HasActed};
+ghost use Rattle.tko_worker.specs.Changes.{OnlyLinesChange};
 ghost use Rattle.tko_worker.specs.Connections.{has_socket};
 ghost use Rattle.tko_worker.specs.Taking.{AreTaken, is_flag_set};
-ghost use Rattle.tko_worker.specs.Turns.{AreAhead, AreWritten, IsAhead, IsNextDue, IsWanted, NoneWanted, OtherPeers, ServersRest, probed_at, socket_at};
+ghost use Rattle.tko_worker.specs.Turns.{AreAhead, AreWritten, IsAhead, IsNothingLeft, IsWanted, OtherPeers, probed_at, socket_at};
 ghost use Rattle.tko_port.specs.Wires.{CannotWriteTo, HasConnected, HasFailed, IsOpen, OtherLines, link_at};
 ghost use Rattle.tko_worker.specs.Workers.{IsInOrder};
 
@@ -111,8 +112,7 @@ impl<P, L: Port + Drop, T: Talking<P> + Drop> EventWorker<L, T, P> {
             (socket_at L.port self.new.peers.items server) }
         ensures others { OtherPeers server self.old.peers.items self.new.peers.items }
         ensures count { length self.new.peers.items ≡ length self.old.peers.items }
-        ensures roster { self.new.clients.mux.roster ≡ self.old.clients.mux.roster }
-        ensures ends { self.new.clients.ends ≡ self.old.clients.ends }
+        ensures clients { OnlyLinesChange self.old.clients self.new.clients }
         ensures order { IsInOrder (T.awaited, T.talk, L.port) T.ready self.new.clients }
     {
         if server < self.peers.len() && server < self.clients.mux.servers() {
@@ -128,8 +128,7 @@ impl<P, L: Port + Drop, T: Talking<P> + Drop> EventWorker<L, T, P> {
             → HasFailed server self.old.clients.mux.lines self.new.clients.mux.lines }
         ensures others { OtherPeers server self.old.peers.items self.new.peers.items }
         ensures count { length self.new.peers.items ≡ length self.old.peers.items }
-        ensures roster { self.new.clients.mux.roster ≡ self.old.clients.mux.roster }
-        ensures ends { self.new.clients.ends ≡ self.old.clients.ends }
+        ensures clients { OnlyLinesChange self.old.clients self.new.clients }
         ensures order { IsInOrder (T.awaited, T.talk, L.port) T.ready self.new.clients }
     {
         if server < self.peers.len() {
@@ -270,18 +269,11 @@ impl<P, L: Port + Drop, T: Talking<P> + Drop> EventWorker<L, T, P> {
     /// the next turn, that is to wait for events, until the first response is due.
     pub fn finish(&mut self, now: u64) -> Outlook
         requires { IsInOrder (T.awaited, T.talk, L.port) T.ready self.old.clients }
-        ensures rests { OnTrue result.rests (ServersRest L.port now self.new.clients.mux.lines
-            self.new.peers.items (length self.new.peers.items)) }
-        ensures none { OnTrue result.rests (self.new.clients.spent ≡ []) }
-        ensures taken { OnTrue result.rests (self.old.is_behind ≡ false) }
-        ensures due { IsNextDue self.new.clients.mux.lines (length self.new.peers.items)
-            result.due }
-        ensures wants { OnFalse result.wants (NoneWanted L.port self.new.clients.mux.lines
-            self.new.peers.items (length self.new.peers.items)) }
-        ensures touched { self.new.clients.touched ≡ self.old.clients.touched }
-        ensures spent { self.new.clients.spent ≡ self.old.clients.spent }
-        ensures ends { self.new.clients.ends ≡ self.old.clients.ends }
-        ensures roster { self.new.clients.mux.roster ≡ self.old.clients.mux.roster }
+        ensures ahead { AreAhead L.port now self.new.clients.mux.lines self.new.peers.items
+            (length self.new.peers.items) result }
+        ensures none { OnTrue result.rests
+            (IsNothingLeft self.old.is_behind self.new.clients.spent) }
+        ensures clients { OnlyLinesChange self.old.clients self.new.clients }
         ensures written { AreWritten L.port self.new.clients.mux.lines self.new.peers.items
             (length self.new.peers.items) }
         ensures count { length self.new.peers.items ≡ length self.old.peers.items }
@@ -343,10 +335,7 @@ fn finish_all<P, L: Port + Drop, T: Talking<P> + Drop>(
         (length peers.new.items) }
     ensures ahead { AreAhead L.port now clients.new.mux.lines peers.new.items
         (length peers.new.items) result }
-    ensures touched { clients.new.touched ≡ clients.old.touched }
-    ensures spent { clients.new.spent ≡ clients.old.spent }
-    ensures ends { clients.new.ends ≡ clients.old.ends }
-    ensures roster { clients.new.mux.roster ≡ clients.old.mux.roster }
+    ensures clients { OnlyLinesChange clients.old clients.new }
     ensures count { length peers.new.items ≡ length peers.old.items }
     ensures order { IsInOrder (T.awaited, T.talk, L.port) T.ready clients.new }
 {
@@ -372,10 +361,7 @@ fn finish_one<P, L: Port + Drop, T: Talking<P> + Drop>(
     ensures ahead { IsAhead now (line_at clients.new.mux server)
         (option_map L.port peer.new.socket) result }
     ensures others { OtherLines server clients.old.mux.lines clients.new.mux.lines }
-    ensures touched { clients.new.touched ≡ clients.old.touched }
-    ensures spent { clients.new.spent ≡ clients.old.spent }
-    ensures ends { clients.new.ends ≡ clients.old.ends }
-    ensures roster { clients.new.mux.roster ≡ clients.old.mux.roster }
+    ensures clients { OnlyLinesChange clients.old clients.new }
     ensures order { IsInOrder (T.awaited, T.talk, L.port) T.ready clients.new }
 {
     if is_quiet(&clients.mux, peer, server) {

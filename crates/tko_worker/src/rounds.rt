@@ -3,6 +3,7 @@ ghost use Rattle.std.specs.Prelude.{◌≡◌, ◌<◌, OnErr, OnOk, length};
 ghost use Rattle.tko_pipe.specs.Pipes.{pushing};
 ghost use Rattle.tko_mux.specs.Lines.{IsLinePushed};
 ghost use Rattle.tko_mux.specs.Muxes.{IsOnLine};
+ghost use Rattle.tko_worker.specs.Changes.{KeepsClients, OnlyLinesChange};
 ghost use Rattle.tko_worker.specs.Workers.{IsInOrder};
 
 use crate::Worker;
@@ -42,12 +43,9 @@ impl<P, L: Port + Drop, T: Talking<P> + Drop> Worker<L, T, P> {
         requires order { IsInOrder (T.awaited, T.talk, L.port) T.ready self.old }
         ensures does { V.does visit self.old.mux.roster.parts.parts result
             self.new.mux.roster.parts.parts }
-        ensures slots { self.new.mux.roster.slots ≡ self.old.mux.roster.slots }
+        ensures clients { KeepsClients self.old self.new }
         ensures lines { self.new.mux.lines ≡ self.old.mux.lines }
         ensures limit { self.new.mux.limit ≡ self.old.mux.limit }
-        ensures touched { self.new.touched ≡ self.old.touched }
-        ensures spent { self.new.spent ≡ self.old.spent }
-        ensures ends { self.new.ends ≡ self.old.ends }
         ensures order { IsInOrder (T.awaited, T.talk, L.port) T.ready self.new }
     {
         self.mux.visit(OnShared { visit })
@@ -61,11 +59,8 @@ impl<P, L: Port + Drop, T: Talking<P> + Drop> Worker<L, T, P> {
             (pushing Asker.Probe due Request.Version) it) self.old.mux.lines duty
             self.new.mux.lines) }
         ensures err { OnErr result (self.new ≡ self.old) }
-        ensures touched { self.new.touched ≡ self.old.touched }
-        ensures spent { self.new.spent ≡ self.old.spent }
-        ensures ends { self.new.ends ≡ self.old.ends }
+        ensures clients { OnlyLinesChange self.old self.new }
         ensures limit { self.new.mux.limit ≡ self.old.mux.limit }
-        ensures roster { self.new.mux.roster ≡ self.old.mux.roster }
         ensures order { IsInOrder (T.awaited, T.talk, L.port) T.ready self.new }
     {
         self.mux.probe(alloc, duty, due)

@@ -1,10 +1,11 @@
 //! The servers of a worker, from one event to the next.
-ghost use Rattle.std.specs.Prelude.{◌≡◌, ◌≢◌, ◌<◌, None, Some, Ok, false, length, option_copied, option_map};
+ghost use Rattle.std.specs.Prelude.{◌≡◌, ◌<◌, None, false, length, option_map};
 ghost use Rattle.std.specs.Bool.{OnFalse, OnTrue};
 ghost use Rattle.tko_mux.specs.Muxes.{HasNoneLeaving, line_at};
 ghost use Rattle.tko_worker.specs.Acts.{HasActed};
-ghost use Rattle.tko_worker.specs.Servers.{HasNoResponse};
-ghost use Rattle.tko_port.specs.Wires.{CannotRead, CannotWriteTo, HasConnected, HasExpired, HasFailed, HasReadOn, IsHeld, IsOpen, OtherLines, first_at, is_first_late};
+ghost use Rattle.tko_worker.specs.Changes.{OnlyLinesChange};
+ghost use Rattle.tko_worker.specs.Servers.{HasNoResponse, IsDrained, IsNothingRead};
+ghost use Rattle.tko_port.specs.Wires.{CannotWriteTo, HasConnected, HasExpired, HasFailed, HasReadOn, IsHeld, IsOpen, OtherLines, first_at, is_first_late};
 ghost use Rattle.tko_worker.specs.Workers.{IsInOrder};
 
 use crate::Worker;
@@ -32,8 +33,7 @@ impl<P, L: Port + Drop, T: Talking<P> + Drop> Worker<L, T, P> {
         requires order { IsInOrder (T.awaited, T.talk, L.port) T.ready self.old }
         ensures done { HasConnected server self.old.mux.lines (option_map L.port peer.old.socket)
             self.new.mux.lines (option_map L.port peer.new.socket) }
-        ensures roster { self.new.mux.roster ≡ self.old.mux.roster }
-        ensures ends { self.new.ends ≡ self.old.ends }
+        ensures clients { OnlyLinesChange self.old self.new }
         ensures order { IsInOrder (T.awaited, T.talk, L.port) T.ready self.new }
     {
         if peer.is_closed() {
@@ -51,8 +51,7 @@ impl<P, L: Port + Drop, T: Talking<P> + Drop> Worker<L, T, P> {
         requires order { IsInOrder (T.awaited, T.talk, L.port) T.ready self.old }
         ensures done { HasFailed server self.old.mux.lines self.new.mux.lines }
         ensures held { IsHeld (option_map L.port peer.new.socket) (line_at self.new.mux server) }
-        ensures roster { self.new.mux.roster ≡ self.old.mux.roster }
-        ensures ends { self.new.ends ≡ self.old.ends }
+        ensures clients { OnlyLinesChange self.old self.new }
         ensures order { IsInOrder (T.awaited, T.talk, L.port) T.ready self.new }
     {
         peer.hold(is_open(&self.mux, server));
@@ -81,14 +80,11 @@ impl<P, L: Port + Drop, T: Talking<P> + Drop> Worker<L, T, P> {
     ) -> bool
         requires room { 0 < length buffer.old }
         requires order { IsInOrder (T.awaited, T.talk, L.port) T.ready self.old }
-        ensures cannot { OnTrue result
-            (CannotRead (line_at self.new.mux server) (option_map L.port peer.new.socket)) }
-        ensures taken { OnTrue result
-            (HasNoResponse ⟦<Guest<L, T> as Asking<SharedParts<P>>>⟧.waits_for
-            self.new.mux server) }
+        ensures drained { OnTrue result
+            (IsDrained ⟦<Guest<L, T> as Asking<SharedParts<P>>>⟧.waits_for self.new.mux server
+            (option_map L.port peer.new.socket)) }
         ensures time { OnTrue result
             (is_first_late (first_at (line_at self.new.mux server)) now ≡ false) }
-        ensures open { OnTrue result (IsOpen (line_at self.new.mux server)) }
         ensures held { IsHeld (option_map L.port peer.new.socket) (line_at self.new.mux server) }
         ensures room { length buffer.new ≡ length buffer.old }
         ensures acted { HasActed (T.awaited, T.talk, L.port) self.old self.new }
@@ -156,12 +152,9 @@ impl<P, L: Port + Drop, T: Talking<P> + Drop> Worker<L, T, P> {
         requires room { 0 < length buffer.old }
         requires held { IsHeld (option_map L.port peer.old.socket) (line_at self.old.mux server) }
         requires order { IsInOrder (T.awaited, T.talk, L.port) T.ready self.old }
-        ensures cannot { OnTrue result
-            (CannotRead (line_at self.new.mux server) (option_map L.port peer.new.socket)) }
-        ensures taken { OnTrue result
-            (HasNoResponse ⟦<Guest<L, T> as Asking<SharedParts<P>>>⟧.waits_for
-            self.new.mux server) }
-        ensures open { OnTrue result (IsOpen (line_at self.new.mux server)) }
+        ensures drained { OnTrue result
+            (IsDrained ⟦<Guest<L, T> as Asking<SharedParts<P>>>⟧.waits_for self.new.mux server
+            (option_map L.port peer.new.socket)) }
         ensures held { IsHeld (option_map L.port peer.new.socket) (line_at self.new.mux server) }
         ensures room { length buffer.new ≡ length buffer.old }
         ensures acted { HasActed (T.awaited, T.talk, L.port) self.old self.new }
@@ -226,13 +219,11 @@ impl<P, L: Port + Drop, T: Talking<P> + Drop> Worker<L, T, P> {
         requires order { IsInOrder (T.awaited, T.talk, L.port) T.ready self.old }
         ensures read { OnTrue result (HasReadOn server now self.old.mux.lines
             (option_map L.port peer.old.socket) self.new.mux.lines) }
-        ensures kept { OnFalse result (self.new ≡ self.old) }
-        ensures cannot { OnFalse result
-            (CannotRead (line_at self.new.mux server) (option_map L.port peer.new.socket)) }
+        ensures none { OnFalse result (IsNothingRead self.old server
+            (option_map L.port peer.new.socket) self.new) }
         ensures held { IsHeld (option_map L.port peer.new.socket) (line_at self.new.mux server) }
         ensures room { length buffer.new ≡ length buffer.old }
-        ensures roster { self.new.mux.roster ≡ self.old.mux.roster }
-        ensures ends { self.new.ends ≡ self.old.ends }
+        ensures clients { OnlyLinesChange self.old self.new }
         ensures order { IsInOrder (T.awaited, T.talk, L.port) T.ready self.new }
     {
         if !read_wire(&mut self.mux, &mut peer.socket, server, now, buffer) {
@@ -248,15 +239,13 @@ impl<P, L: Port + Drop, T: Talking<P> + Drop> Worker<L, T, P> {
         requires open { IsOpen (line_at self.old.mux server) }
         requires held { IsHeld (option_map L.port peer.old.socket) (line_at self.old.mux server) }
         requires order { IsInOrder (T.awaited, T.talk, L.port) T.ready self.old }
-        ensures kept { OnFalse result (self.new ≡ self.old) }
-        ensures socket { OnFalse result (peer.new ≡ peer.old) }
+        ensures kept { OnFalse result ((self.new ≡ self.old) × (peer.new ≡ peer.old)) }
         ensures time { OnFalse result
             (is_first_late (first_at (line_at self.old.mux server)) now ≡ false) }
         ensures late { OnTrue result
             (HasExpired server now self.old.mux.lines self.new.mux.lines) }
         ensures held { IsHeld (option_map L.port peer.new.socket) (line_at self.new.mux server) }
-        ensures roster { self.new.mux.roster ≡ self.old.mux.roster }
-        ensures ends { self.new.ends ≡ self.old.ends }
+        ensures clients { OnlyLinesChange self.old self.new }
         ensures order { IsInOrder (T.awaited, T.talk, L.port) T.ready self.new }
     {
         if !is_late(&self.mux, server, now) {
@@ -273,10 +262,7 @@ impl<P, L: Port + Drop, T: Talking<P> + Drop> Worker<L, T, P> {
         ensures wrote { IsOpen (line_at self.new.mux server)
             → CannotWriteTo (line_at self.new.mux server) (option_map L.port peer.new.socket) }
         ensures others { OtherLines server self.old.mux.lines self.new.mux.lines }
-        ensures touched { self.new.touched ≡ self.old.touched }
-        ensures spent { self.new.spent ≡ self.old.spent }
-        ensures ends { self.new.ends ≡ self.old.ends }
-        ensures roster { self.new.mux.roster ≡ self.old.mux.roster }
+        ensures clients { OnlyLinesChange self.old self.new }
         ensures held { IsHeld (option_map L.port peer.new.socket) (line_at self.new.mux server) }
         ensures order { IsInOrder (T.awaited, T.talk, L.port) T.ready self.new }
     {

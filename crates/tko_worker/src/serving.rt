@@ -5,8 +5,8 @@ ghost use Rattle.tko_roster.specs.Rosters.{AreReady};
 ghost use Rattle.tko_mux.specs.Linking.{AreLinked, IsNotForgotten};
 ghost use Rattle.tko_worker.specs.Acts.{HaveActed};
 ghost use Rattle.tko_worker.specs.Servers.{ListsReached};
-ghost use Rattle.tko_worker.specs.Serving.{OnceEnds, ServeCounts};
-ghost use Rattle.tko_worker.specs.Workers.{DropEnds, IsHere, IsListedFor, IsNotedToServe, IsNumberServed, ListEnds, OthersStay, OthersStayFor, RestAt, WasServed};
+ghost use Rattle.tko_worker.specs.Serving.{OnceEnds, ServeCounts, SpentEnds};
+ghost use Rattle.tko_worker.specs.Workers.{DropEnds, IsHere, IsListedFor, IsNotedToServe, IsNumberServed, ListEnds, OthersStay, OthersStayFor, RestAt};
 
 use crate::EndCounts;
 use std::alloc::Global;
@@ -195,14 +195,12 @@ fn is_spent<P, L: Port + Drop, T: Talking<P> + Drop>(
         mux.old.roster }
     requires linked { AreLinked ⟦<Guest<L, T> as Asking<SharedParts<P>>>⟧.awaited
         mux.old.roster.slots mux.old.lines }
-    ensures rests { OnFalse result
-        (RestAt (T.awaited, T.talk, L.port) mux.new.roster.slots number) }
-    ensures served { OnTrue result (WasServed (T.awaited, T.talk, L.port)
-        ⟦<Guest<L, T> as Asking<SharedParts<P>>>⟧.asks_for mux.old number due mux.new) }
+    ensures ends { SpentEnds (T.awaited, T.talk, L.port)
+        ⟦<Guest<L, T> as Asking<SharedParts<P>>>⟧.asks_for (mux.old, ends.old) number due result
+        (mux.new, ends.new) }
     ensures counted { ServeCounts (T.awaited, T.talk, L.port)
         ⟦<Guest<L, T> as Asking<SharedParts<P>>>⟧.asks_for (mux.old, ends.old) number due
         (mux.new, ends.new) }
-    ensures none { OnTrue result (ends.new ≡ ends.old) }
     ensures others { OthersStay number mux.old.roster.slots mux.new.roster.slots }
     ensures acted { HaveActed (T.awaited, T.talk, L.port) (mux.old.roster, ends.old)
         (mux.new.roster, ends.new) }

@@ -1,15 +1,13 @@
 use Rattle.std.proofs.Common.{rules, ◌∙◌}
 use Rattle.std.proofs.lemmas.List.{length-set}
 use Rattle.tko_worker.proofs.AheadLemmas.{ahead_next, written_next}
+use Rattle.tko_worker.proofs.ChangesLemmas.{lines_on}
 use Rattle.tko_worker.proofs.event_worker.finish_all.Goals as goal
 
 pub loop-server-preserved : goal.loop-server-preserved
 loop-server-preserved g c = record {
   order = c.finish_one-its.ensures.order;
-  touched = c.finish_one-its.ensures.touched ∙ c.loop-server.invariant.touched;
-  spent = c.finish_one-its.ensures.spent ∙ c.loop-server.invariant.spent;
-  ends = c.finish_one-its.ensures.ends ∙ c.loop-server.invariant.ends;
-  roster = c.finish_one-its.ensures.roster ∙ c.loop-server.invariant.roster;
+  clients = lines_on c.loop-server.invariant.clients c.finish_one-its.ensures.clients;
   count = length-set c.loop-server.peers.items c.loop-server.server c.finish_one-its.new.peer
       ∙ c.loop-server.invariant.count;
   written = written_next g.L.Port.port c.loop-server.server c.loop-server.clients.mux.lines

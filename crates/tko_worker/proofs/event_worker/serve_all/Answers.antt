@@ -14,8 +14,8 @@ loop-server-preserved g c = record {
       (c.serve_server-its.new.self.mux.roster, c.serve_server-its.new.self.ends)
       c.loop-server.invariant.acted c.serve_server-its.ensures.acted;
   taken = taken_next (g.T.Talking.awaited, g.T.Talking.talk, g.L.Port.port)
-      (λ guest. g.T.Talking.waits_for guest.talk) c.args.awake.now c.loop-server.server
+      (λ guest. g.T.Talking.waits_for guest.talk) c.args.awake.now c.loop-server.server _
       c.loop-server.all c.serve_server-its.result _ _
       c.loop-server.clients c.serve_server-its.new.self (search rules) c.loop-server.invariant.acted
-      c.serve_server-its.ensures.acted c.loop-server.invariant.taken c.serve_server-its.ensures.taken;
+      c.serve_server-its.ensures.acted c.loop-server.invariant.taken c.serve_server-its.ensures.drained;
 }

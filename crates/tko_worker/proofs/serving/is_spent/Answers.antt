@@ -17,12 +17,15 @@ returns-in-Rests-clause-acted g c =
     (c.args.mux.now.roster, c.args.ends.now) (c.loop.mux.roster, c.loop.ends)
     (c.serve_once.new.mux.roster, c.serve_once.new.ends) c.loop.invariant.acted c.serve_once.ensures.acted
 
-pub returns-in-Later-clause-served : goal.returns-in-Later-clause-served
-returns-in-Later-clause-served g c =
-    served_on (g.T.Talking.awaited, g.T.Talking.talk, g.L.Port.port) (λ guest. g.T.Talking.asks_for guest.talk)
-    c.args.number c.args.due c.args.mux.now c.loop.mux c.serve_once.new.mux
-    c.loop.invariant.asked.0 c.loop.invariant.asked.1
-    c.in-Later.ensures.ends.0
+pub returns-in-Later-clause-ends : goal.returns-in-Later-clause-ends
+returns-in-Later-clause-ends g c = record {
+  rests = tt;
+  served = served_on (g.T.Talking.awaited, g.T.Talking.talk, g.L.Port.port) (λ guest. g.T.Talking.asks_for guest.talk)
+      c.args.number c.args.due c.args.mux.now c.loop.mux c.serve_once.new.mux
+      c.loop.invariant.asked.0 c.loop.invariant.asked.1
+      c.in-Later.ensures.ends.0;
+  none = c.in-Later.ensures.ends.1 ∙ c.loop.invariant.ends;
+}
 
 pub returns-in-Later-clause-counted : goal.returns-in-Later-clause-counted
 returns-in-Later-clause-counted g c =
@@ -71,12 +74,15 @@ returns-in-AsksMore-serve_once-clause-acted g c =
     (c.args.mux.now.roster, c.args.ends.now) (c.loop.mux.roster, c.loop.ends)
     (c.serve_once-2.new.mux.roster, c.serve_once-2.new.ends) c.loop.invariant.acted c.serve_once-2.ensures.acted
 
-pub returns-in-Later-serve_once-clause-served : goal.returns-in-Later-serve_once-clause-served
-returns-in-Later-serve_once-clause-served g c =
-    served_on (g.T.Talking.awaited, g.T.Talking.talk, g.L.Port.port) (λ guest. g.T.Talking.asks_for guest.talk)
-    c.args.number c.args.due c.args.mux.now c.loop.mux c.serve_once-2.new.mux
-    c.loop.invariant.asked.0 c.loop.invariant.asked.1
-    c.in-Later-serve_once.ensures.ends.0
+pub returns-in-Later-serve_once-clause-ends : goal.returns-in-Later-serve_once-clause-ends
+returns-in-Later-serve_once-clause-ends g c = record {
+  rests = tt;
+  served = served_on (g.T.Talking.awaited, g.T.Talking.talk, g.L.Port.port) (λ guest. g.T.Talking.asks_for guest.talk)
+      c.args.number c.args.due c.args.mux.now c.loop.mux c.serve_once-2.new.mux
+      c.loop.invariant.asked.0 c.loop.invariant.asked.1
+      c.in-Later-serve_once.ensures.ends.0;
+  none = c.in-Later-serve_once.ensures.ends.1 ∙ c.loop.invariant.ends;
+}
 
 pub returns-in-Later-serve_once-clause-counted : goal.returns-in-Later-serve_once-clause-counted
 returns-in-Later-serve_once-clause-counted g c =

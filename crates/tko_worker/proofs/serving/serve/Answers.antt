@@ -9,15 +9,15 @@ pub returns-then-is_spent-clause-served : goal.returns-then-is_spent-clause-serv
 returns-then-is_spent-clause-served g c =
     served_after (g.T.Talking.awaited, g.T.Talking.talk, g.L.Port.port)
     (λ guest. g.T.Talking.asks_for guest.talk) c.args.mux.now c.is_spent.new.mux c.list.new.mux
-    c.args.number c.args.due c.args.spent.now.items c.list.new.numbers.items (search rules)
-    c.list.ensures.listed
+    c.args.number c.args.due c.args.spent.now.items c.list.new.numbers.items
+    c.if-is_spent.ensures.ends.served c.list.ensures.listed
 
 pub returns-then-is_spent-clause-counted : goal.returns-then-is_spent-clause-counted
 returns-then-is_spent-clause-counted g c =
     served_listed (g.T.Talking.awaited, g.T.Talking.talk, g.L.Port.port)
     (λ guest. g.T.Talking.asks_for guest.talk) c.args.mux.now c.is_spent.new.mux c.list.new.mux
     c.args.ends.now c.list.new.ends c.args.number c.args.due c.args.spent.now.items
-    c.list.new.numbers.items (search rules)
+    c.list.new.numbers.items c.if-is_spent.ensures.ends.served
     (subst (λ e. ListEnds (g.T.Talking.awaited, g.T.Talking.talk, g.L.Port.port) (c.is_spent.new.mux, e) c.args.number
     c.args.spent.now.items (c.list.new.mux, c.list.new.ends) c.list.new.numbers.items)
     (search rules) c.list.ensures.ends)

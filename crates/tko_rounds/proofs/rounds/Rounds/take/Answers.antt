@@ -13,5 +13,5 @@ returns-clause-taken g c =
     (probed_at c.probed.new.self.peers.items) c.set_out.new.self c.settle.new.self (record { came = c.in-Some.came; reply = c.settle.result })
     (rw c.if-not-is_out.false at c.is_out.ensures) (sym c.in-Some.ensures.came) c.in-Some.ensures.gone
     (λ at other. probed_same c.args.worker.now.peers.items c.probed.new.self.peers.items at (c.in-Some.ensures.others at other))
-    (rw now at settled.takes.has_come) c.set_out.ensures settled.counted settled.counts settled.out
+    (rw now at settled.takes.has_come) c.set_out.ensures settled.counted
     (rw now at settled.limit) (rw now at settled.lines)

@@ -1,19 +1,16 @@
-use Rattle.std.proofs.Common.{refl, ◌∙◌}
+use Rattle.std.proofs.Common.{refl}
+use Rattle.tko_worker.proofs.ChangesLemmas.{keeps_on}
 use Rattle.tko_rounds.specs.Workers.{parts_in, state_of}
 use Rattle.tko_rounds.proofs.RoundLemmas.{visited_more, visited_none}
-use Rattle.tko_rounds.proofs.VisitLemmas.{keeps_on, probing_on}
+use Rattle.tko_rounds.proofs.VisitLemmas.{probing_none, probing_on, servers_on}
 use Rattle.tko_rounds.proofs.rounds.Rounds.visit_all.Goals as goal
 
 pub loop-server-init : goal.loop-server-init
 loop-server-init g c = record {
   visits = visited_none c.args.moment c.args.due (state_of c.args.self.now c.args.worker.now);
-  parts = refl;
+  parts = probing_none (parts_in c.args.worker.now.clients);
   clients = record { slots = refl; touched = refl; spent = refl; ends = refl };
-  out = refl;
-  lines = refl;
-  health = refl;
-  sockets = λ server. refl;
-  count = refl;
+  servers = record { out = refl; lines = refl; sockets = λ server. refl; count = refl };
   order = c.requires.order;
 }
 
@@ -25,14 +22,10 @@ loop-server-preserved g c =
           visited_more {old = state_of c.args.self.now c.args.worker.now}
           {mid = state_of c.loop-server.self c.loop-server.worker}
           {new = state_of c.visit-short.new.self c.visit-short.new.worker} was.visits one.visit;
-      parts =
-          probing_on (parts_in c.args.worker.now.clients) (parts_in c.loop-server.worker.clients)
-          (parts_in c.visit-short.new.worker.clients) was.parts one.parts;
+      parts = probing_on was.parts one.parts;
       clients = keeps_on was.clients one.clients;
-      out = one.out ∙ was.out;
-      lines = one.lines ∙ was.lines;
-      health = one.health ∙ was.health;
-      sockets = λ server. one.sockets server ∙ was.sockets server;
-      count = one.count ∙ was.count;
+      servers =
+          servers_on {one = (c.args.self.now, c.args.worker.now)} {two = (c.loop-server.self, c.loop-server.worker)}
+          {three = (c.visit-short.new.self, c.visit-short.new.worker)} was.servers one.servers;
       order = one.order;
     }

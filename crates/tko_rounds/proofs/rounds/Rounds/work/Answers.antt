@@ -1,7 +1,8 @@
-use Rattle.std.proofs.Common.{ap}
+use Rattle.std.proofs.Common.{ap, length, refl}
+use Rattle.tko_worker.proofs.ChangesLemmas.{keeps_on}
 use Rattle.tko_rounds.specs.Workers.{parts_in, state_of}
 use Rattle.tko_rounds.proofs.RoundLemmas.{round_begun}
-use Rattle.tko_rounds.proofs.VisitLemmas.{probing_begun, probing_on}
+use Rattle.tko_rounds.proofs.VisitLemmas.{probing_begun, probing_on, servers_on}
 use Rattle.tko_rounds.proofs.rounds.Rounds.work.Goals as goal
 
 pub returns-clause-round : goal.returns-clause-round
@@ -13,6 +14,13 @@ returns-clause-round g c =
 
 pub returns-clause-parts : goal.returns-clause-parts
 returns-clause-parts g c =
-    let was = parts_in c.args.worker.now.clients in
-    let begun = probing_begun c.args.moment was (parts_in c.visit.new.self) c.visit.ensures.does in
-    probing_on was (parts_in c.visit.new.self) (parts_in c.visit_all.new.worker.clients) begun c.visit_all.ensures.parts
+    probing_on (probing_begun c.args.moment (parts_in c.args.worker.now.clients) (parts_in c.visit.new.self) c.visit.ensures.does)
+    c.visit_all.ensures.parts
+
+pub returns-clause-clients : goal.returns-clause-clients
+returns-clause-clients g c = keeps_on c.visit.ensures.clients c.visit_all.ensures.clients
+
+pub returns-clause-servers : goal.returns-clause-servers
+returns-clause-servers g c =
+    servers_on (record { out = refl; lines = ap length c.visit.ensures.lines; sockets = λ server. refl; count = refl })
+    c.visit_all.ensures.servers

@@ -1,5 +1,5 @@
 use Rattle.std.proofs.Common.{ap}
-use Rattle.tko_rounds.proofs.VisitLemmas.{come_of, probing_of}
+use Rattle.tko_rounds.proofs.VisitLemmas.{come_of, only_probing, probing_of}
 use Rattle.tko_rounds.proofs.visits.TakeResultPartsVisitLent.visit.Goals as goal
 
 pub returns-clause-does : goal.returns-clause-does
@@ -10,6 +10,8 @@ returns-clause-does g c = λ within.
           come_of g.H.Health c.args.self.moment c.args.lent.now.parts.backend c.args.self.server c.args.self.came
           c.came-reply.result c.came-reply.new.self (rw c.probed_by-probed.ensures at c.came-reply.ensures.result)
           c.came-reply.ensures.none;
-      others = rw c.probed.ensures (ap (λ (b : _). record c.args.lent.now.parts { backend = b }) probing);
-      servers = c.came-reply.ensures.servers;
+      parts =
+          only_probing c.args.lent.now.parts _
+          (rw c.probed.ensures (ap (λ (b : _). record c.args.lent.now.parts { backend = b }) probing))
+          c.came-reply.ensures.servers;
     }

@@ -1,14 +1,13 @@
-use Rattle.std.proofs.Common.{subst, sym}
-use Rattle.tko_worker.specs.Servers.{HasNoResponse}
-use Rattle.tko_worker.specs.Workers.{WorkerState}
 use Rattle.std.proofs.Common.{◌∙◌, arith}
-use Rattle.tko_worker.proofs.ActedLemmas.{acted_on, acted_same}
+use Rattle.tko_worker.proofs.ActedLemmas.{acted_on, lines_acted}
+use Rattle.tko_worker.proofs.TakenLemmas.{drained_by}
 use Rattle.tko_worker.proofs.worker.Worker.pull.Goals as goal
 
-pub returns-then-not-read-clause-taken : goal.returns-then-not-read-clause-taken
-returns-then-not-read-clause-taken g c =
-    subst (λ (w : WorkerState _ _ _). HasNoResponse (λ guest. g.T.Talking.waits_for guest.talk) w.mux
-    c.args.server) (sym c.if-not-read.ensures.kept) c.if-not-take_all.ensures.taken
+pub returns-then-not-read-clause-drained : goal.returns-then-not-read-clause-drained
+returns-then-not-read-clause-drained g c =
+    drained_by (λ guest. g.T.Talking.waits_for guest.talk) c.take_all.new.self c.read.new.self
+    c.args.server _ c.if-not-take_all.ensures.open c.if-not-take_all.ensures.taken
+    c.if-not-read.ensures.none
 
 pub returns-then-not-take_all-clause-acted : goal.returns-then-not-take_all-clause-acted
 returns-then-not-take_all-clause-acted g c =
@@ -30,12 +29,8 @@ returns-then-not-read-clause-acted g c =
     )
     (c.take_all.new.self.mux.roster, c.take_all.new.self.ends) c.loop.invariant.acted
     c.if-not-take_all.ensures.acted)
-    (acted_same (g.T.Talking.awaited, g.T.Talking.talk, g.L.Port.port)
-    (c.take_all.new.self.mux.roster, c.take_all.new.self.ends) (
-      c.read.new.self.mux.roster,
-      c.read.new.self.ends,
-    ) c.if-not-read.ensures.roster
-    c.if-not-read.ensures.ends)
+    (lines_acted (g.T.Talking.awaited, g.T.Talking.talk, g.L.Port.port) c.take_all.new.self
+    c.read.new.self c.if-not-read.ensures.clients)
 
 pub loop-preserved : goal.loop-preserved
 loop-preserved g c = record {
@@ -52,10 +47,6 @@ loop-preserved g c = record {
       )
       (c.take_all.new.self.mux.roster, c.take_all.new.self.ends) c.loop.invariant.acted
       c.if-not-take_all.ensures.acted)
-      (acted_same (g.T.Talking.awaited, g.T.Talking.talk, g.L.Port.port)
-      (c.take_all.new.self.mux.roster, c.take_all.new.self.ends) (
-        c.read.new.self.mux.roster,
-        c.read.new.self.ends,
-      ) c.if-not-read.ensures.roster
-      c.if-not-read.ensures.ends);
+      (lines_acted (g.T.Talking.awaited, g.T.Talking.talk, g.L.Port.port) c.take_all.new.self
+      c.read.new.self c.if-not-read.ensures.clients);
 }

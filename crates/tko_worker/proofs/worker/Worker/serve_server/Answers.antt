@@ -1,11 +1,12 @@
-use Rattle.tko_worker.proofs.TakenLemmas.{none_kept}
-use Rattle.tko_worker.proofs.ActedLemmas.{acted_on, acted_same}
+use Rattle.tko_worker.proofs.TakenLemmas.{still_drained}
+use Rattle.tko_worker.proofs.ActedLemmas.{acted_on, lines_acted}
 use Rattle.tko_worker.proofs.worker.Worker.serve_server.Goals as goal
 
-pub returns-clause-taken : goal.returns-clause-taken
-returns-clause-taken g c =
-    none_kept (λ guest. g.T.Talking.waits_for guest.talk) c.pull.new.self c.expire.new.self
-    c.args.server c.expire.result c.expire.ensures.kept c.if-not-pull.ensures.taken
+pub returns-clause-drained : goal.returns-clause-drained
+returns-clause-drained g c =
+    still_drained g.L.Port.port (λ guest. g.T.Talking.waits_for guest.talk) c.pull.new.self
+    c.expire.new.self c.pull.new.peer c.expire.new.peer c.args.server c.expire.result
+    c.expire.ensures.kept c.if-not-pull.ensures.drained
 
 pub returns-then-not-pull-clause-acted : goal.returns-then-not-pull-clause-acted
 returns-then-not-pull-clause-acted g c =
@@ -38,9 +39,5 @@ returns-clause-acted g c =
       c.pull.new.self.ends,
     )
     c.if-not-leave_all.ensures.acted c.if-not-pull.ensures.acted)
-    (acted_same (g.T.Talking.awaited, g.T.Talking.talk, g.L.Port.port) (
-      c.pull.new.self.mux.roster,
-      c.pull.new.self.ends,
-    )
-    (c.expire.new.self.mux.roster, c.expire.new.self.ends) c.expire.ensures.roster
-    c.expire.ensures.ends)
+    (lines_acted (g.T.Talking.awaited, g.T.Talking.talk, g.L.Port.port) c.pull.new.self
+    c.expire.new.self c.expire.ensures.clients)
