@@ -3,6 +3,7 @@ mod ReadingRows
 pub mod BufferLemmas
 pub mod CuttingLemmas
 pub mod DataLemmas
+pub mod FirstLineLemmas
 pub mod GivesLemmas
 pub mod JoinedLemmas
 pub mod KeyLemmas
@@ -14,6 +15,7 @@ pub mod ListingReads
 pub mod ListingTexts
 pub mod MarkLemmas
 pub mod NeverLemmas
+pub mod PartLemmas
 pub mod PlaceLemmas
 pub mod PrintLemmas
 pub mod PrintedLemmas

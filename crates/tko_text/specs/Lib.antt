@@ -2,6 +2,7 @@ pub mod Buffers
 pub mod Commands
 pub mod Data
 pub mod DataEnds
+pub mod FirstLines
 pub mod Heads
 pub mod HeldKeys
 pub mod Keys

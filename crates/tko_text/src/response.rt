@@ -84,7 +84,7 @@ impl Response {
         ensures { IfSome result (λ text. text ≡ response_text self.now) }
     {
         match self {
-            Response::Values(Some(value)) => writer::shared_text(value, b"\r\nEND\r\n"),
+            Response::Values(Some(value)) => shared::shared_text(value, b"\r\nEND\r\n"),
             _ => None,
         }
     }
@@ -123,6 +123,7 @@ mod part;
 mod place;
 mod places;
 mod reader;
+mod shared;
 mod writer;
 
 pub use body::{Text, Value};

@@ -145,29 +145,29 @@ const PARTS: &str = "\
     VALUE a 0 2 8\r\nxy\r\nEND\r\nVALUE b 0 0 7\r\n\r\nEND\r\n;\
     get a b|SERVER_ERROR x\r\n|a b|SERVER_ERROR x\r\nSERVER_ERROR x\r\n";
 
-/// Appends the written form of the part of this key.
-fn append_part(
-    alloc: Global,
-    response: &mut Response,
-    key: &str,
-    text: &mut Vec<u8>,
-) -> Result<(), Fail> {
+/// The response that these bytes of a server are, which keeps them.
+fn taken(alloc: Global, request: &str, bytes: &str) -> Result<Response, Fail> {
+    let request = request_of(alloc, request)?;
+    let mut bytes = Vec::from_slice(alloc, bytes.as_bytes())?;
+    let (response, _) = Response::take(alloc, &request, &mut bytes)?;
+    Ok(response)
+}
+
+/// The part of this key.
+fn part_of(alloc: Global, response: &mut Response, key: &str) -> Result<Response, Fail> {
     let Some(key) = Key::of(alloc, key.as_bytes())? else {
         return Err("no key".into());
     };
-    let part = response.part(alloc, &key)?;
-    part.append_to(text)?;
-    Ok(())
+    Ok(response.part(alloc, &key)?)
 }
 
 /// The written forms of the parts of these keys.
 fn parts(alloc: Global, request: &str, bytes: &str, keys: &str) -> Result<Vec<u8>, Fail> {
-    let request = request_of(alloc, request)?;
-    let mut bytes = Vec::from_slice(alloc, bytes.as_bytes())?;
-    let (mut response, _) = Response::take(alloc, &request, &mut bytes)?;
+    let mut response = taken(alloc, request, bytes)?;
     let mut text = Vec::new(alloc);
     for key in keys.split(' ') {
-        append_part(alloc, &mut response, key, &mut text)?;
+        let part = part_of(alloc, &mut response, key)?;
+        part.append_to(&mut text)?;
     }
     Ok(text)
 }
@@ -179,6 +179,43 @@ fn each_key_has_its_part_of_a_response(rt: HostRuntime) -> Result<(), Fail> {
         let (bytes, more) = more.split_once('|').ok_or("no keys")?;
         let (keys, text) = more.split_once('|').ok_or("no parts")?;
         let came = parts(rt.alloc(), request, bytes, keys)?;
+        assert_eq!(rt; came.as_slice(), text.as_bytes(), "{row}");
+    }
+    Ok(())
+}
+
+/// Requests of several keys, each with the bytes of a server, keys, and what the values of these
+/// share of the bytes: `-` is a value whose first line is not in its printed form.
+const SHARED: &str = "\
+    get a b c d|VALUE a 0 12\r\n0123456789ab\r\nVALUE b 00 1\r\nx\r\nVALUE  c 7 1\r\nx\r\n\
+    VALUE d 4294967295 0\r\n\r\nEND\r\n|a b c d|\
+    VALUE a 0 12\r\n0123456789ab\r\n--VALUE d 4294967295 0\r\n\r\n;\
+    gets a b c|VALUE a 10 1 18446744073709551615\r\nx\r\nVALUE b 1 01 7\r\nx\r\n\
+    VALUE c 1 1 7\nx\r\nEND\r\n|a b c|VALUE a 10 1 18446744073709551615\r\nx\r\n--";
+
+/// What the values of these keys share of the bytes.
+fn shared(alloc: Global, request: &str, bytes: &str, keys: &str) -> Result<Vec<u8>, Fail> {
+    let mut response = taken(alloc, request, bytes)?;
+    let mut text = Vec::new(alloc);
+    for key in keys.split(' ') {
+        let Response::Values(Some(value)) = part_of(alloc, &mut response, key)? else {
+            return Err("no value".into());
+        };
+        match value.shared_text() {
+            Some(found) => text.extend_from_slice(found.as_slice())?,
+            None => text.push(b'-')?,
+        }
+    }
+    Ok(text)
+}
+
+#[test]
+fn a_value_shares_its_text_in_printed_form_alone(rt: HostRuntime) -> Result<(), Fail> {
+    for row in SHARED.split(';') {
+        let (request, more) = row.split_once('|').ok_or("no row")?;
+        let (bytes, more) = more.split_once('|').ok_or("no keys")?;
+        let (keys, text) = more.split_once('|').ok_or("no text")?;
+        let came = shared(rt.alloc(), request, bytes, keys)?;
         assert_eq!(rt; came.as_slice(), text.as_bytes(), "{row}");
     }
     Ok(())

@@ -3,7 +3,8 @@ ghost use Rattle.std.specs.Prelude.{◌≡◌, ◌↔◌, ◌++◌, IfSome, IsTr
 ghost use Rattle.tko_text.specs.ResponseLines.{IsLineText};
 ghost use Rattle.tko_text.specs.Responses.{value_text};
 
-use super::writer::{append_value, shared_text};
+use super::shared::shared_text;
+use super::writer::append_value;
 use crate::{Data, Key, NoMemory};
 use bytes::Bytes;
 use memchr::memchr;

@@ -1,10 +1,9 @@
 //! Data: bytes of their own, or a part of the text in which they came.
-ghost use Rattle.std.specs.Prelude.{◌≡◌, ◌+◌, ◌≤◌, ◌↔◌, ◌++◌, drop, flat_map, length, take, IfSome, IsTrue};
+ghost use Rattle.std.specs.Prelude.{◌≡◌, ◌+◌, ◌≤◌, ◌↔◌, ◌++◌, drop, length, take, IfSome, IsTrue};
 ghost use Rattle.tko_text.specs.ResponseLines.{IsData};
 
 use bytes::Bytes;
 use std::marker::Model;
-use tko_bytes::is_joined;
 
 /// The most bytes that are stored under one key.
 pub(crate) const DATA_LIMIT: usize = 1_048_576;
@@ -95,42 +94,26 @@ impl Data {
 impl Part {
     ghost use Rattle.tko_text.specs.Data.{part_bytes};
 
-    /// The piece of the text that has these pieces right before the part and this right behind it,
-    /// if they are there. The text is shared and not copied.
-    pub(crate) fn text_around(&self, front: &[&[u8]], back: &[u8]) -> Option<Bytes>
-        ensures { IfSome result (λ text.
-            text ≡ flat_map (λ piece. piece.now) front.now ++ part_bytes self.now ++ back.now) }
+    /// The bytes of the text before the part.
+    pub(crate) fn before(&self) -> &[u8]
+        ensures { result.now ≡ take self.now.begin self.now.text }
     {
-        let len = len_of(front);
-        if len > self.begin {
+        self.text.as_slice().split_at(self.begin).0
+    }
+
+    /// The piece of the text from a place before the part up to these bytes right after it, if they
+    /// are there. The text is shared and not copied.
+    pub(crate) fn text_from(&self, from: usize, back: &[u8]) -> Option<Bytes>
+        requires { from ≤ self.now.begin }
+        ensures { IfSome result (λ text. text
+            ≡ drop from (take self.now.begin self.now.text) ++ part_bytes self.now ++ back.now) }
+    {
+        let (_, after) = self.text.as_slice().split_at(self.begin + self.size);
+        if after.strip_prefix(back).is_none() {
             return None;
         }
-        let (before, rest) = self.text.as_slice().split_at(self.begin);
-        let (_, after) = rest.split_at(self.size);
-        let from = self.begin - len;
-        if is_joined(&before[from..], front) && after.strip_prefix(back).is_some() {
-            return self.piece(from, back.len());
-        }
-        None
-    }
-
-    /// The text from a place before the part up to so many bytes behind it.
-    fn piece(&self, from: usize, behind: usize) -> Option<Bytes>
-        requires from { from ≤ self.now.begin }
-        requires behind { self.now.begin + self.now.size + behind ≤ length self.now.text }
-        ensures { IfSome result (λ text.
-            text ≡ drop from (take (self.now.begin + self.now.size + behind) self.now.text)) }
-    {
-        let mut text = self.text.clone().ok()?;
-        text.truncate(self.begin + self.size + behind);
-        text.advance(from);
+        let end = self.begin + self.size + back.len();
+        let text = self.text.slice(from..end).ok()?;
         Some(text)
     }
-}
-
-/// How many bytes the pieces have together, or another number where a `usize` cannot say so.
-fn len_of(pieces: &[&[u8]]) -> usize {
-    pieces
-        .iter()
-        .fold(0, |len, piece| len.saturating_add(piece.len()))
 }

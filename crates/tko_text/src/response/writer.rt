@@ -1,15 +1,12 @@
 //! Writes a response.
-ghost use Rattle.std.specs.Prelude.{◌≡◌, ◌++◌, ℕ, [], All, List, None, Some, IfSome, OnOk, OnErr, codes, flat_map, length, take};
+ghost use Rattle.std.specs.Prelude.{◌≡◌, ◌++◌, ℕ, [], All, List, None, Some, OnOk, OnErr, codes, flat_map, length, take};
 ghost use Rattle.std.specs.Fmt.{decimal};
-ghost use Rattle.tko_text.specs.Data.{part_bytes};
 ghost use Rattle.tko_text.specs.Places.{IsPlaceIn, parts, value_at, values_in};
 ghost use Rattle.tko_text.specs.Responses.{found_text, response_text, value_text};
 
-use super::data::Part;
 use super::place::ValuePlace;
 use super::{Listed, Response, Value};
 use crate::{Key, NoMemory};
-use bytes::Bytes;
 use itoa::Buffer;
 use tko_bytes::append;
 
@@ -198,57 +195,4 @@ fn append_unique<'a>(
         last,
     ];
     append(out, &pieces)
-}
-
-/// The written form of a value and what follows it, without a copy, if the value shares the text
-/// that it was read from and they are there: `last` is that after the data, from their CR LF on.
-pub(crate) fn shared_text(value: &Value, last: &[u8]) -> Option<Bytes>
-    ensures { IfSome result (λ text. (end : List ℕ) → last.now ≡ codes "\r\n" ++ end
-        → text ≡ value_text value.now ++ end) }
-{
-    let part = value.data.part()?;
-    match value.unique {
-        None => shared_plain(value, part, last),
-        Some(unique) => shared_unique(value, part, unique, last),
-    }
-}
-
-/// The same for a value without a cas number, whose data is this part of a text.
-fn shared_plain(value: &Value, part: &Part, last: &[u8]) -> Option<Bytes>
-    requires { part_bytes part.now ≡ value.now.data }
-    ensures { IfSome result (λ text. (end : List ℕ) → last.now ≡ codes "\r\n" ++ end
-        → text ≡ found_text value.now [] ++ end) }
-{
-    let (mut flags, mut size) = (Buffer::new(), Buffer::new());
-    let front = [
-        b"VALUE ",
-        value.key.as_bytes(),
-        b" ",
-        flags.format(value.flags).as_bytes(),
-        b" ",
-        size.format(value.data.as_bytes().len()).as_bytes(),
-        b"\r\n",
-    ];
-    part.text_around(&front, last)
-}
-
-/// The same for one with this cas number.
-fn shared_unique(value: &Value, part: &Part, unique: u64, last: &[u8]) -> Option<Bytes>
-    requires { part_bytes part.now ≡ value.now.data }
-    ensures { IfSome result (λ text. (end : List ℕ) → last.now ≡ codes "\r\n" ++ end
-        → text ≡ found_text value.now (codes " " ++ decimal unique) ++ end) }
-{
-    let (mut flags, mut size, mut cas) = (Buffer::new(), Buffer::new(), Buffer::new());
-    let front = [
-        b"VALUE ",
-        value.key.as_bytes(),
-        b" ",
-        flags.format(value.flags).as_bytes(),
-        b" ",
-        size.format(value.data.as_bytes().len()).as_bytes(),
-        b" ",
-        cas.format(unique).as_bytes(),
-        b"\r\n",
-    ];
-    part.text_around(&front, last)
 }
