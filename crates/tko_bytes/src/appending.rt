@@ -1,5 +1,5 @@
 //! Appending to a buffer, and emptying it.
-ghost use Rattle.std.specs.Prelude.{◌≡◌, ◌++◌, ◌+◌, ◌≤◌, ◌↔◌, [], flat_map, sum_by, length, IfSome, IsTrue, OnOk, OnErr};
+ghost use Rattle.std.specs.Prelude.{◌≡◌, ◌++◌, ◌+◌, ◌≤◌, [], flat_map, sum_by, length, IfSome, OnOk, OnErr};
 ghost use Rattle.std.specs.Vec.{vec_len, vec_capacity};
 
 use crate::NoMemory;
@@ -38,20 +38,6 @@ fn put(out: &mut Vec<u8>, piece: &[u8])
 {
     let done = out.extend_from_slice(piece);
     prove!(done.is_ok());
-}
-
-/// Whether the bytes are the pieces, one after another.
-pub fn is_joined(bytes: &[u8], pieces: &[&[u8]]) -> bool
-    ensures { IsTrue result ↔ (bytes.now ≡ flat_map (λ piece. piece.now) pieces.now) }
-{
-    let mut rest = bytes;
-    for piece in pieces {
-        match rest.strip_prefix(*piece) {
-            Some(after) => rest = after,
-            None => return false,
-        }
-    }
-    rest.is_empty()
 }
 
 /// Empties a buffer, and releases its capacity where that is greater than `kept`.

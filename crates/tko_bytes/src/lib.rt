@@ -5,8 +5,8 @@
 //! - `split_line`, `content`, `first_line`: lines, which end with LF or CR LF.
 //! - `split_word`, `is_word`, `SpacedWords`: words, which any number of spaces separate.
 //! - `Fields`: fields, which single spaces separate.
-//! - `append`: puts several pieces at the end of a buffer, or none of them; `is_joined`: whether
-//!   bytes are several pieces; `clear`: empties a buffer.
+//! - `append`: puts several pieces at the end of a buffer, or none of them; `clear`: empties a
+//!   buffer.
 #![tactic(auto)]
 
 mod appending;
@@ -16,7 +16,7 @@ mod memory;
 mod numbers;
 mod words;
 
-pub use appending::{append, clear, is_joined};
+pub use appending::{append, clear};
 pub use fields::Fields;
 pub use lines::{content, first_line, split_line};
 pub use memory::NoMemory;
