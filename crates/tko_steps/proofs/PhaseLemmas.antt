@@ -13,7 +13,7 @@ use Rattle.tko_steps.specs.declared.table.Decision.{Decision}
 use Rattle.tko_steps.specs.declared.table.Decision.TheVariants.{Goes, Answers}
 use Rattle.tko_steps.specs.Core.{owner_of, CoreState, abstract_of, has_number, is_enrolled}
 use Rattle.tko_steps.specs.Steps.{decided_state}
-use Rattle.tko_steps.specs.Invariant.{IsFoundBy, IsOwnOrUp, IsThread, holds}
+use Rattle.tko_steps.specs.Invariant.{IsFoundBy, IsOwnOrUp, IsThread}
 use Rattle.tko_steps.proofs.CountLemmas.{IsOn}
 use Rattle.tko_steps.proofs.TableLemmas.{IsDecided}
 use Rattle.tko_steps.proofs.KnownLemmas.{IsFreeFor}

@@ -1,5 +1,7 @@
--- The rule is kept and the pass took the step of its phase, where a seat has one pass, which is at this call and phase.
-use Rattle.std.proofs.Common.{◌≡◌, ℕ, zero, suc, ◌<◌, List, [], ◌∷◌, length, set, refl, sym, ap, subst, arith}
+-- The rule is kept and the pass took the step of its phase, where a seat has one pass, which is at
+-- this call and phase.
+use Rattle.std.proofs.Common.{◌≡◌, ℕ, zero, suc, ◌<◌, List, [], ◌∷◌, length, set, refl, sym, ap}
+use Rattle.std.proofs.Common.{subst, arith}
 use mathlib.Core.Option.{some, some-ne-none}
 use lib.ListN.{get_elem?}
 use Rattle.atomic_table.proofs.Lists.{set_here}
@@ -29,7 +31,8 @@ Seat = Me (Unit {0}) (List PassView)
 abbrev pub Rule : Settings → Table → Type 0
 Rule s state = IsKept s state.words state.views
 
-set_twice : {A : Type 0} (xs : List A) (i : ℕ) (one other : A) → set (set xs i one) i other ≡ set xs i other
+set_twice : {A : Type 0} (xs : List A) (i : ℕ) (one other : A)
+    → set (set xs i one) i other ≡ set xs i other
 set_twice [] i one other = refl
 set_twice (x ∷ xs) zero one other = refl
 set_twice (x ∷ xs) (suc i) one other = ap (λ more. x ∷ more) (set_twice xs i one other)
@@ -40,37 +43,49 @@ there-lt (y ∷ xs) zero x e = omega arith
 there-lt (y ∷ xs) (suc i) x e = omega (arith, there-lt xs i x e)
 
 -- what a seat's one pass became, with the rule of the table then
-pub record IsTaken (s : Settings) (words new_words : List ℕ) (views : List (List PassView)) (id : ℕ) (pass : PassView) (call : Call) (phase : Phase)
+pub record IsTaken (s : Settings) (words new_words : List ℕ) (views : List (List PassView)) (id : ℕ)
+    (pass : PassView) (call : Call) (phase : Phase)
     (found : ℕ) : Type 0 where
   pub new : PassView
   pub kept : IsKept s new_words (set views id (new ∷ []))
   pub takes : Takes pass call phase (read_in (action_of call.number phase) found) new
 
-pub taken-call : (s : Settings) (words new_words : List ℕ) (views : List (List PassView)) (id : ℕ) (pass : PassView) (call : Call) (phase : Phase) (found : ℕ)
-    → IsKept s words views → get_elem? views id ≡ some (pass ∷ []) → pass.state ≡ InCall call phase → IsStepOn s words new_words call.server (action_of call.number phase) found
+pub taken-call : (s : Settings) (words new_words : List ℕ) (views : List (List PassView)) (id : ℕ)
+    (pass : PassView) (call : Call) (phase : Phase) (found : ℕ)
+    → IsKept s words views → get_elem? views id ≡ some (pass ∷ []) → pass.state ≡ InCall call phase
+    → IsStepOn s words new_words call.server (action_of call.number phase) found
     → IsTaken s words new_words views id pass call phase found
 taken-call s words new_words views id pass call phase found kept there stands on =
-    let P : Observed → Type 0 = λ it. Takes pass call phase it (pass_after s words new_words views id [] [] pass call phase kept there stands on.left on.valid) in
+    let P : Observed → Type 0 = λ it. Takes pass call phase it (pass_after s words new_words views
+    id [] [] pass call phase kept there stands on.left on.valid) in
     record {
-      new = pass_after s words new_words views id [] [] pass call phase kept there stands on.left on.valid;
-      kept = act-kept s words new_words views id [] [] pass call phase kept there stands on.left on.valid;
-      takes = subst P on.reads (act-takes s words new_words views id [] [] pass call phase kept there stands on.left on.valid);
+      new = pass_after s words new_words views id [] [] pass call phase kept there stands
+          on.left on.valid;
+      kept = act-kept s words new_words views id [] [] pass call phase kept there stands
+          on.left on.valid;
+      takes = subst P on.reads (act-takes s words new_words views id [] [] pass call phase kept
+          there stands on.left on.valid);
     }
 
-pub taken-look : (s : Settings) (words new_words : List ℕ) (views : List (List PassView)) (id : ℕ) (pass : PassView) (call : Call) (phase : Phase) (found : ℕ)
-    → IsKept s words views → get_elem? views id ≡ some (pass ∷ []) → (op : Op) → in_call pass.state op call.server ≡ InCall call phase
+pub taken-look : (s : Settings) (words new_words : List ℕ) (views : List (List PassView)) (id : ℕ)
+    (pass : PassView) (call : Call) (phase : Phase) (found : ℕ)
+    → IsKept s words views → get_elem? views id ≡ some (pass ∷ []) → (op : Op)
+    → in_call pass.state op call.server ≡ InCall call phase
     → call.server < length (shared_in s words).servers
     → IsStepOn s words new_words call.server (action_of call.number phase) found
     → IsTaken s words new_words views id pass call phase found
 taken-look s words new_words views id pass call phase found kept there op begins on_server on =
-    let begun = begin-kept s words views id [] [] pass op call.server kept there on_server call phase begins in
+    let begun = begin-kept s words views id [] [] pass op call.server kept there on_server call
+    phase begins in
     let pass_now = with_state pass (InCall call phase) in
     let there_now = set_here views id (pass_now ∷ []) (there-lt views id (pass ∷ []) there) in
-    let taken = taken-call s words new_words (set views id (pass_now ∷ [])) id pass_now call phase found begun there_now refl on in
+    let taken = taken-call s words new_words
+    (set views id (pass_now ∷ [])) id pass_now call phase found begun there_now refl on in
     let takes = taken.takes in
     record {
       new = taken.new;
-      kept = subst (IsKept s new_words) (set_twice views id (pass_now ∷ []) (taken.new ∷ [])) taken.kept;
+      kept = subst (IsKept s new_words)
+          (set_twice views id (pass_now ∷ []) (taken.new ∷ [])) taken.kept;
       takes = record {
         core = takes.core;
         is_found = record {

@@ -1,5 +1,6 @@
 -- What each step on the table owes, from one call and phase to whichever the seat has.
-use Rattle.std.proofs.Common.{◌≡◌, ℕ, ◌+◌, ◌-◌, ◌%◌, ◌^◌, ◌<◌, true, eqb, List, [], ◌∷◌, length, get_or, set, All, refl, sym, ap, ◌∙◌, subst, arith}
+use Rattle.std.proofs.Common.{◌≡◌, ℕ, ◌+◌, ◌^◌, ◌<◌, true, eqb, List, [], ◌∷◌, length, get_or, set}
+use Rattle.std.proofs.Common.{refl, sym, ap, ◌∙◌, subst, arith}
 use mathlib.Core.Option.{some}
 use lib.ListN.{get_elem?}
 use prog.Atomic.{either}
@@ -11,28 +12,25 @@ use Rattle.tko_model.specs.declared.state.ServerState.{ServerState}
 use Rattle.tko_word.specs.Words.{IsWord, server_in}
 use Rattle.tko_steps.specs.declared.phase.Call.{Call}
 use Rattle.tko_steps.specs.declared.phase.Phase.{Phase}
-use Rattle.tko_steps.specs.declared.phase.Slots.{Slots}
 use Rattle.tko_steps.specs.declared.phase.ThreadState.{ThreadState}
 use Rattle.tko_steps.specs.declared.phase.ThreadState.TheVariants.{InCall}
 use Rattle.tko_steps.specs.declared.table.Action.{Action}
 use Rattle.tko_steps.specs.declared.table.Action.TheVariants as action
-use Rattle.tko_steps.specs.Core.{CanAct, slots_in}
 use Rattle.tko_steps.specs.Steps.{in_call, is_marked_state}
 use Rattle.tko_steps.specs.Table.{action_of}
 use Rattle.tko_table.specs.declared.pass.PassView.{PassView}
-use Rattle.tko_table.specs.Rule.{IsKept, health_in, health_place, shared_in, soft_place}
-use Rattle.tko_table.specs.Steps.{Exchanged, IsSoundWord, IsWithinLimit, Looked, LookedAtSlots, Plays, Took, read_in}
-use Rattle.tko_table.proofs.StepLemmas.{IsStepOn, all-sound, can-act, own-stands, looks-at-server, looks-at-slots, slots-within, slots-inside}
-use Rattle.tko_table.proofs.WordStepLemmas.{exchanges, gives, loosens, reserves, settles}
-use Rattle.tko_model.specs.Groups.{group_of}
+use Rattle.tko_table.specs.Rule.{IsKept, health_place, shared_in}
+use Rattle.tko_table.specs.Steps.{Exchanged, IsSoundWord, Looked, Plays, Took, read_in}
+use Rattle.tko_table.proofs.StepLemmas.{IsStepOn, all-sound, own-stands, looks-at-server}
+use Rattle.tko_table.proofs.WordStepLemmas.{exchanges}
 use Rattle.tko_table.proofs.AllowsLemmas.{Rule, Seat, Table, taken-call, taken-look}
 
--- ---- from one call and phase to whichever the seat has
-
-head_is : (view : List PassView) (one other : PassView) → view ≡ one ∷ [] → view ≡ other ∷ [] → one ≡ other
+pub head_is : (view : List PassView) (one other : PassView) → view ≡ one ∷ [] → view ≡ other ∷ []
+    → one ≡ other
 head_is view one other first second = let same : one ∷ [] ≡ other ∷ [] = sym first ∙ second in cc
 
-took-any : (view new : List PassView) (found : ℕ) (pass : PassView) (call : Call) (phase : Phase) → view ≡ pass ∷ []
+took-any : (view new : List PassView) (found : ℕ) (pass : PassView) (call : Call) (phase : Phase)
+    → view ≡ pass ∷ []
     → (state : ThreadState) → state ≡ InCall call phase
     → Took view call phase (read_in (action_of call.number phase) found) new
     → (other : Call) (at : Phase) → state ≡ InCall other at
@@ -45,16 +43,20 @@ took-any view new found pass call phase alone state stands took other at also =
     (subst (λ it. Took view it phase (read_in (action_of it.number phase) found) new) calls took)
 
 -- a step of the call under way
-pub allows-call : (s : Settings) (slots id : ℕ) (me : Seat) (word : ℕ) (f : ℕ → ℕ) (pass : PassView) (call : Call) (phase : Phase)
+pub allows-call : (s : Settings) (slots id : ℕ) (me : Seat) (word : ℕ) (f : ℕ → ℕ) (pass : PassView)
+    (call : Call) (phase : Phase)
     → me.0 ≡ pass ∷ [] → pass.state ≡ InCall call phase
-    → ((state : Table) → IsKept s state.words state.views → get_elem? state.views id ≡ some (pass ∷ []) → get_or state.words word 0 < 2 ^ 64
-    → IsStepOn s state.words (set state.words word (f (get_or state.words word 0))) call.server (action_of call.number phase)
+    → ((state : Table) → IsKept s state.words state.views
+    → get_elem? state.views id ≡ some (pass ∷ []) → get_or state.words word 0 < 2 ^ 64
+    → IsStepOn s state.words (set state.words word (f (get_or state.words word 0))) call.server
+    (action_of call.number phase)
     (get_or state.words word 0))
     → Allows (Rule s) slots id me word f (λ found new. Plays me found new × (new.1 ≡ me.1))
 allows-call s slots id me word f pass call phase alone stands steps state kept homes at fits =
     let there : get_elem? state.views id ≡ some (pass ∷ []) = at ∙ ap some alone in
     let found = get_or state.words word 0 in
-    let taken = taken-call s state.words (set state.words word (f found)) state.views id pass call phase found kept there stands (steps state kept there fits) in (
+    let taken = taken-call s state.words (set state.words word (f found)) state.views id pass call
+    phase found kept there stands (steps state kept there fits) in (
       taken.new ∷ [],
       keeps,
       tt,
@@ -70,19 +72,26 @@ allows-call s slots id me word f pass call phase alone stands steps state kept h
     )
 
 -- a load of a server's word; the call is under way, or begins with it
-pub allows-look : (s : Settings) (slots id : ℕ) (me : Seat) (op : Op) (pass : PassView) (call : Call) (phase : Phase)
-    → me.0 ≡ pass ∷ [] → in_call pass.state op call.server ≡ InCall call phase → action_of call.number phase ≡ action.LookAtServer
+pub allows-look : (s : Settings) (slots id : ℕ) (me : Seat) (op : Op) (pass : PassView)
+    (call : Call) (phase : Phase)
+    → me.0 ≡ pass ∷ [] → in_call pass.state op call.server ≡ InCall call phase
+    → action_of call.number phase ≡ action.LookAtServer
     → pass.settings ≡ s → call.server < s.servers
     → Allows (Rule s) slots id me (health_place call.server) (λ n. n)
     (λ found new. Looked op (health_place call.server) me found new × (new.1 ≡ me.1))
-allows-look s slots id me op pass call phase alone begins is_look same_settings on_server state kept homes at fits =
+allows-look s slots id me op pass call phase alone begins is_look same_settings on_server state kept
+    homes at fits =
     let there : get_elem? state.views id ≡ some (pass ∷ []) = at ∙ ap some alone in
     let word = health_place call.server in
     let found = get_or state.words word 0 in
-    let inside : call.server < length (shared_in s state.words).servers = omega (arith, on_server, kept.core.core.count) in
-    let P : Action → Type 0 = λ it. IsStepOn s state.words (set state.words word found) call.server it found in
-    let on = subst P (sym is_look) (looks-at-server s state.words call.server kept.core.valid inside) in
-    let taken = taken-look s state.words (set state.words word found) state.views id pass call phase found kept there op begins inside on in
+    let inside : call.server < length (shared_in s state.words).servers =
+    omega (arith, on_server, kept.core.core.count) in
+    let P : Action → Type 0 =
+    λ it. IsStepOn s state.words (set state.words word found) call.server it found in
+    let on =
+    subst P (sym is_look) (looks-at-server s state.words call.server kept.core.valid inside) in
+    let taken = taken-look s state.words (set state.words word found) state.views id pass call phase
+    found kept there op begins inside on in
     let new = taken.new ∷ [] in (
       new,
       keeps,
@@ -94,123 +103,82 @@ allows-look s slots id me op pass call phase alone begins is_look same_settings 
               let same : pass ≡ other = head_is me.0 pass other alone other_alone in
               let servers : own_call.server ≡ call.server = omega arith in
               let state_is : in_call pass.state op call.server ≡ InCall own_call own_phase =
-              ap (λ (it : PassView). in_call it.state op call.server) same ∙ ap (in_call other.state op) (sym servers) ∙ other_begins in
-              took-any me.0 new found pass call phase alone (in_call pass.state op call.server) begins
+              ap (λ (it : PassView). in_call it.state op call.server) same
+              ∙ ap (in_call other.state op) (sym servers) ∙ other_begins in
+              took-any me.0 new found pass call phase alone
+              (in_call pass.state op call.server) begins
               (record { old = pass; new = taken.new; was = alone; is = refl; takes = taken.takes })
               own_call own_phase state_is;
           sound = λ other other_alone.
               let same : pass ≡ other = head_is me.0 pass other alone other_alone in
-              let settings : s ≡ other.settings = sym same_settings ∙ ap (λ (it : PassView). it.settings) same in
-              subst (λ it. IsSoundWord it found) settings (all-sound s state.words state.views kept call.server inside);
+              let settings : s ≡ other.settings =
+              sym same_settings ∙ ap (λ (it : PassView). it.settings) same in
+              subst (λ it. IsSoundWord it found) settings
+              (all-sound s state.words state.views kept call.server inside);
         },
         refl,
       ),
     )
 
 -- a step that also tells a fact about the number that it found
-allows-with : (holds : Table → Type 0) (slots id : ℕ) (me : Seat) (word : ℕ) (f : ℕ → ℕ) (told tells : ℕ → Seat → Type 0) (Fact : ℕ → Type 0)
+pub allows-with : (holds : Table → Type 0) (slots id : ℕ) (me : Seat) (word : ℕ) (f : ℕ → ℕ)
+    (told tells : ℕ → Seat → Type 0) (Fact : ℕ → Type 0)
     → Allows holds slots id me word f told
-    → ((state : Table) → holds state → get_elem? state.views id ≡ some me.0 → Fact (get_or state.words word 0))
+    → ((state : Table) → holds state → get_elem? state.views id ≡ some me.0
+    → Fact (get_or state.words word 0))
     → ((found : ℕ) (new : Seat) → Fact found → told found new → tells found new)
     → Allows holds slots id me word f tells
 allows-with holds slots id me word f told tells Fact allows fact both state kept homes at fits =
-    let given = allows state kept homes at fits in
-    (given.0, given.1, given.2, given.3, both (get_or state.words word 0) _ (fact state kept at) given.4)
-
--- a load of the soft word
-pub allows-look_at_slots : (s : Settings) (slots id : ℕ) (me : Seat) (pass : PassView) (call : Call) (phase : Phase)
-    → me.0 ≡ pass ∷ [] → pass.state ≡ InCall call phase → action_of call.number phase ≡ action.LookAtSlots → pass.settings ≡ s
-    → Allows (Rule s) slots id me (soft_place s (group_of s call.server)) (λ n. n) (λ found new. LookedAtSlots me found new × (new.1 ≡ me.1))
-allows-look_at_slots s slots id me pass call phase alone stands is_look same_settings =
-    allows-with (Rule s) slots id me (soft_place s (group_of s call.server)) (λ n. n) (λ found new. Plays me found new × (new.1 ≡ me.1))
-    (λ found new. LookedAtSlots me found new × (new.1 ≡ me.1)) (λ found. IsWithinLimit s call.server (slots_in found))
-    (allows-call s slots id me (soft_place s (group_of s call.server)) (λ n. n) pass call phase alone stands (λ state kept there fits.
-    let found = get_or state.words (soft_place s (group_of s call.server)) 0 in
-    let P : Action → Type 0 = λ it. IsStepOn s state.words (set state.words (soft_place s (group_of s call.server)) found) call.server it found in
-    subst P (sym is_look)
-    (looks-at-slots s state.words call.server kept.core.valid (slots-inside s state.words state.views call.server kept))))
-    (λ state kept at. slots-within s state.words state.views call.server kept)
-    (λ found new within plays. (
-      record {
-        plays = plays.0;
-        within = λ other own_call own_phase other_alone other_stands.
-            let same : pass ≡ other = head_is me.0 pass other alone other_alone in
-            let settings : s ≡ other.settings = sym same_settings ∙ ap (λ (it : PassView). it.settings) same in
-            let both : InCall call phase ≡ InCall own_call own_phase = sym stands ∙ ap (λ (it : PassView). it.state) same ∙ other_stands in
-            let calls : call ≡ own_call = cc in
-            subst (λ (it : Call). IsWithinLimit other.settings it.server (slots_in found)) calls
-            (subst (λ it. IsWithinLimit it call.server (slots_in found)) settings within);
-      },
-      plays.1,
-    ))
+    let given = allows state kept homes at fits in (
+      given.0,
+      given.1,
+      given.2,
+      given.3,
+      both (get_or state.words word 0) _ (fact state kept at) given.4,
+    )
 
 -- where the server of a call under way is
-server-inside : (s : Settings) (words : List ℕ) (server : ℕ) → (views : List (List PassView)) → IsKept s words views → server < s.servers
+server-inside : (s : Settings) (words : List ℕ) (server : ℕ) → (views : List (List PassView))
+    → IsKept s words views → server < s.servers
     → server < length (shared_in s words).servers
 server-inside s words server views kept on_server = omega (arith, on_server, kept.core.core.count)
 
 -- an exchange of a server's word
-pub allows-exchange : (s : Settings) (slots id : ℕ) (me : Seat) (pass : PassView) (call : Call) (phase : Phase) (found : ServerState) (mark : Mark)
-    (expected new : ℕ) → me.0 ≡ pass ∷ [] → pass.state ≡ InCall call phase → action_of call.number phase ≡ action.Exchange found mark
+pub allows-exchange : (s : Settings) (slots id : ℕ) (me : Seat) (pass : PassView) (call : Call)
+    (phase : Phase) (found : ServerState) (mark : Mark)
+    (expected new : ℕ) → me.0 ≡ pass ∷ [] → pass.state ≡ InCall call phase
+    → action_of call.number phase ≡ action.Exchange found mark
     → call.server < s.servers → IsWord expected → server_in expected ≡ found → IsWord new
     → server_in new ≡ record { mark = mark; stamp = found.stamp + 1 }
     → Allows (Rule s) slots id me (health_place call.server) (λ n. either (eqb n expected) new n)
     (λ n after. Exchanged (health_place call.server) me n after × (after.1 ≡ me.1))
-allows-exchange s slots id me pass call phase found mark expected new alone stands is_exchange on_server is_expected expects is_new leaves =
+allows-exchange s slots id me pass call phase found mark expected new alone stands is_exchange
+    on_server is_expected expects is_new leaves =
     let word = health_place call.server in
     let f = λ (n : ℕ). either (eqb n expected) new n in
-    let Fact : ℕ → Type 0 = λ n. IsWord n × ((other : PassView) (own_call : Call) (own_phase : Phase) (own_found : ServerState) (own_mark : Mark)
-    → me.0 ≡ other ∷ [] → word ≡ health_place own_call.server → other.state ≡ InCall own_call own_phase
-    → action_of own_call.number own_phase ≡ action.Exchange own_found own_mark → is_marked_state own_found.mark ≡ true → server_in n ≡ own_found) in
-    allows-with (Rule s) slots id me word f (λ n after. Plays me n after × (after.1 ≡ me.1)) (λ n after. Exchanged word me n after × (after.1 ≡ me.1)) Fact
+    let Fact : ℕ → Type 0 = λ n. IsWord n × ((other : PassView) (own_call : Call)
+    (own_phase : Phase) (own_found : ServerState) (own_mark : Mark)
+    → me.0 ≡ other ∷ [] → word ≡ health_place own_call.server
+    → other.state ≡ InCall own_call own_phase
+    → action_of own_call.number own_phase ≡ action.Exchange own_found own_mark
+    → is_marked_state own_found.mark ≡ true → server_in n ≡ own_found) in
+    allows-with (Rule s) slots id me word f (λ n after. Plays me n after × (after.1 ≡ me.1))
+    (λ n after. Exchanged word me n after × (after.1 ≡ me.1)) Fact
     (allows-call s slots id me word f pass call phase alone stands (λ state kept there fits.
     let n = get_or state.words word 0 in
-    let P : Action → Type 0 = λ it. IsStepOn s state.words (set state.words word (f n)) call.server it n in
+    let P : Action → Type 0 =
+    λ it. IsStepOn s state.words (set state.words word (f n)) call.server it n in
     subst P (sym is_exchange)
-    (exchanges s state.words call.server expected new found mark kept.core.valid (server-inside s state.words call.server state.views kept on_server)
+    (exchanges s state.words call.server expected new found mark kept.core.valid
+    (server-inside s state.words call.server state.views kept on_server)
     is_expected expects is_new leaves)))
     (λ state kept at. (
-      (all-sound s state.words state.views kept call.server (server-inside s state.words call.server state.views kept on_server)).valid,
-      λ other own_call own_phase own_found own_mark other_alone same_word other_stands is_own marked.
+      (all-sound s state.words state.views kept call.server
+          (server-inside s state.words call.server state.views kept on_server)).valid,
+      λ other own_call own_phase own_found own_mark other_alone same other_stands is_own marked.
           let there : get_elem? state.views id ≡ some (other ∷ []) = at ∙ ap some other_alone in
-          ap (λ it. server_in (get_or state.words it 0)) same_word
-          ∙ own-stands s state.words state.views id [] [] other own_call own_phase own_found own_mark kept there other_stands is_own marked,
+          ap (λ it. server_in (get_or state.words it 0)) same
+          ∙ own-stands s state.words state.views id [] [] other own_call own_phase own_found
+          own_mark kept there other_stands is_own marked,
     ))
     (λ n after fact plays. (record { plays = plays.0; valid = fact.0; stands = fact.1 }, plays.1))
-
--- a change of the soft word
-module _ (s : Settings) (slots id : ℕ) (me : Seat) (pass : PassView) (call : Call) (phase : Phase) (alone : me.0 ≡ pass ∷ [])
-    (stands : pass.state ≡ InCall call phase) where
-  on_soft : (act : Action) (f : ℕ → ℕ) → action_of call.number phase ≡ act
-      → ((words : List ℕ) → All IsWord (health_in s words) → get_or words (soft_place s (group_of s call.server)) 0 < 2 ^ 64
-      → CanAct s (shared_in s words) call.server act
-      → IsStepOn s words (set words (soft_place s (group_of s call.server)) (f (get_or words (soft_place s (group_of s call.server)) 0))) call.server act (get_or words (soft_place s (group_of s call.server)) 0))
-      → Allows (Rule s) slots id me (soft_place s (group_of s call.server)) f (λ found new. Plays me found new × (new.1 ≡ me.1))
-  on_soft act f is steps =
-      allows-call s slots id me (soft_place s (group_of s call.server)) f pass call phase alone stands (λ state kept there fits.
-      let n = get_or state.words (soft_place s (group_of s call.server)) 0 in
-      let P : Action → Type 0 = λ it. IsStepOn s state.words (set state.words (soft_place s (group_of s call.server)) (f n)) call.server it n in
-      let can : CanAct s (shared_in s state.words) call.server act =
-      subst (CanAct s (shared_in s state.words) call.server) is (can-act s state.words state.views id [] [] pass call phase kept there stands) in
-      subst P (sym is) (steps state.words kept.core.valid fits can))
-
-  pub allows-settle : action_of call.number phase ≡ action.Settle
-      → Allows (Rule s) slots id me (soft_place s (group_of s call.server)) (λ n. (n + (2 ^ 64 - 4294967295)) % 2 ^ 64) (λ found new. Plays me found new × (new.1 ≡ me.1))
-  allows-settle is = on_soft action.Settle (λ n. (n + (2 ^ 64 - 4294967295)) % 2 ^ 64) is (λ words valid fits can. settles s words call.server valid fits can)
-
-  pub allows-loosen : action_of call.number phase ≡ action.Loosen
-      → Allows (Rule s) slots id me (soft_place s (group_of s call.server)) (λ n. (n + 4294967295) % 2 ^ 64) (λ found new. Plays me found new × (new.1 ≡ me.1))
-  allows-loosen is = on_soft action.Loosen (λ n. (n + 4294967295) % 2 ^ 64) is (λ words valid fits can. loosens s words call.server valid fits can)
-
-  pub allows-give : action_of call.number phase ≡ action.Give
-      → Allows (Rule s) slots id me (soft_place s (group_of s call.server)) (λ n. (n + (2 ^ 64 - 4294967296)) % 2 ^ 64) (λ found new. Plays me found new × (new.1 ≡ me.1))
-  allows-give is = on_soft action.Give (λ n. (n + (2 ^ 64 - 4294967296)) % 2 ^ 64) is (λ words valid fits can. gives s words call.server valid fits can)
-
-  pub allows-reserve : (taken : Slots) (expected new : ℕ) → action_of call.number phase ≡ action.Reserve taken → slots_in expected ≡ taken
-      → new ≡ (expected + 4294967296) % 2 ^ 64
-      → Allows (Rule s) slots id me (soft_place s (group_of s call.server)) (λ n. either (eqb n expected) new n) (λ found after. Plays me found after × (after.1 ≡ me.1))
-  allows-reserve taken expected new is expects made =
-      let P : ℕ → Type 0 = λ it. Allows (Rule s) slots id me (soft_place s (group_of s call.server)) (λ n. either (eqb n expected) it n) (λ found after. Plays me found after × (after.1 ≡ me.1)) in
-      subst P (sym made)
-      (on_soft (action.Reserve taken) (λ n. either (eqb n expected) ((expected + 4294967296) % 2 ^ 64) n) is
-      (λ words valid fits can. reserves s words call.server valid fits expected taken can expects))

@@ -1,5 +1,8 @@
--- Histories: where one ends, where a beginning of it does, and that no server's stamp falls along it.
-use Rattle.std.proofs.Common.{◌≡◌, ℕ, ◌+◌, ◌<◌, ◌≤◌, List, [], ◌∷◌, ◌++◌, length, set, Option, Some, None, inl, inr, ⊎_elim, refl, sym, ap, ◌∙◌, subst, arith, get_or-set_same, get_or-set_other}
+-- Histories: where one ends, where a beginning of it does, and that no server's stamp falls along
+-- it.
+use Rattle.std.proofs.Common.{◌≡◌, ℕ, ◌+◌, ◌<◌, ◌≤◌, List, [], ◌∷◌, ◌++◌, length, set, Option, Some}
+use Rattle.std.proofs.Common.{None, inl, inr, ⊎_elim, refl, sym, ap, ◌∙◌, subst, arith}
+use Rattle.std.proofs.Common.{get_or-set_same, get_or-set_other}
 use Rattle.std.proofs.lemmas.Bool.{cases_eq, cases_lt}
 use Rattle.std.proofs.lemmas.List.{set_past}
 use Rattle.tko_model.specs.declared.mark.Mark.{Mark}
@@ -14,21 +17,26 @@ use Rattle.tko_table.specs.History.{HasChangeOf, Leads, Replays}
 
 -- one change further
 abbrev next_from : Settings → List ServerState → Change → List ServerState
-next_from s first change = (after (tracker_in s first) change.number change.op change.server).servers
+next_from s first change =
+    (after (tracker_in s first) change.number change.op change.server).servers
 
 -- a history has one end
-pub leads-once : (s : Settings) (first one other : List ServerState) (history : List Change) → Leads s first history one → Leads s first history other
+pub leads-once : (s : Settings) (first one other : List ServerState) (history : List Change)
+    → Leads s first history one → Leads s first history other
     → one ≡ other
 leads-once s first one other [] leads also = leads ∙ sym also
-leads-once s first one other (change ∷ history) leads also = leads-once s (next_from s first change) one other history leads.1 also.1
+leads-once s first one other (change ∷ history) leads also =
+    leads-once s (next_from s first change) one other history leads.1 also.1
 
 -- where the first part of a history ends
-pub record Halves (s : Settings) (first last : List ServerState) (one other : List Change) : Type 0 where
+pub record Halves (s : Settings) (first last : List ServerState)
+    (one other : List Change) : Type 0 where
   pub middle : List ServerState
   pub earlier : Leads s first one middle
   pub later : Leads s middle other last
 
-pub leads-halves : (s : Settings) (first last : List ServerState) (one other : List Change) → Leads s first (one ++ other) last
+pub leads-halves : (s : Settings) (first last : List ServerState) (one other : List Change)
+    → Leads s first (one ++ other) last
     → Halves s first last one other
 leads-halves s first last [] other leads = record { middle = first; earlier = refl; later = leads }
 leads-halves s first last (change ∷ one) other leads =
@@ -37,13 +45,16 @@ leads-halves s first last (change ∷ one) other leads =
 
 -- ---- stamps
 
-not-newer-trans : (one mid other : ServerState) → IsNotNewer one mid → IsNotNewer mid other → IsNotNewer one other
+not-newer-trans : (one mid other : ServerState) → IsNotNewer one mid → IsNotNewer mid other
+    → IsNotNewer one other
 not-newer-trans one mid other first second =
     ⊎_elim
-    (λ (same : one ≡ mid). let P : ServerState → Type 0 = λ it. IsNotNewer it other in subst P (sym same) second)
+    (λ (same : one ≡ mid). let P : ServerState → Type 0 = λ it. IsNotNewer it other in
+    subst P (sym same) second)
     (λ (older : one.stamp < mid.stamp).
     ⊎_elim
-    (λ (same : mid ≡ other). inr (let e : mid.stamp ≡ other.stamp = ap (λ (it : ServerState). it.stamp) same in omega arith))
+    (λ (same : mid ≡ other). inr
+    (let e : mid.stamp ≡ other.stamp = ap (λ (it : ServerState). it.stamp) same in omega arith))
     (λ (later : mid.stamp < other.stamp). inr (omega arith))
     second)
     first
@@ -59,10 +70,13 @@ changed-not-newer servers server (Some mark) at =
     (λ (inside : server < length servers).
     ⊎_elim
     (λ (here : at ≡ server).
-    let now : server_at (set servers server new) at ≡ new = rw here (get_or-set_same servers server new none inside) in
-    let was : (server_at servers at).stamp ≡ (server_at servers server).stamp = ap (λ i. (server_at servers i).stamp) here in
+    let now : server_at (set servers server new) at ≡ new =
+    rw here (get_or-set_same servers server new none inside) in
+    let was : (server_at servers at).stamp ≡ (server_at servers server).stamp =
+    ap (λ i. (server_at servers i).stamp) here in
     subst P (sym now) (inr (omega (arith, was))))
-    (λ (apart : at ≡ server → ⊥). subst P (sym (get_or-set_other servers server at new none apart)) (inl refl))
+    (λ (apart : at ≡ server → ⊥).
+    subst P (sym (get_or-set_other servers server at new none apart)) (inl refl))
     (cases_eq at server))
     (λ (past : length servers ≤ server).
     let Q : List ServerState → Type 0 = λ it. IsNotNewer (server_at servers at) (server_at it at) in
@@ -70,17 +84,20 @@ changed-not-newer servers server (Some mark) at =
     (cases_lt server (length servers))
 
 -- along a history a server stays as it is, or gets a later stamp
-pub leads-not-newer : (s : Settings) (first last : List ServerState) (history : List Change) (at : ℕ) → Leads s first history last
+pub leads-not-newer : (s : Settings) (first last : List ServerState) (history : List Change)
+    (at : ℕ) → Leads s first history last
     → IsNotNewer (server_at first at) (server_at last at)
 leads-not-newer s first last [] at leads = inl (ap (λ it. server_at it at) (sym leads))
 leads-not-newer s first last (change ∷ history) at leads =
     let it = transition_on (tracker_in s first) change.number change.op change.server in
-    not-newer-trans (server_at first at) (server_at (next_from s first change) at) (server_at last at)
+    not-newer-trans (server_at first at) (server_at (next_from s first change) at)
+    (server_at last at)
     (changed-not-newer first change.server it.change at)
     (leads-not-newer s (next_from s first change) last history at leads.1)
 
 -- a server that is neither older nor newer is the same
-pub not-newer-same : (one mid other : ServerState) → IsNotNewer one mid → IsNotNewer mid other → one ≡ other → mid ≡ one
+pub not-newer-same : (one mid other : ServerState) → IsNotNewer one mid → IsNotNewer mid other
+    → one ≡ other → mid ≡ one
 not-newer-same one mid other first second same =
     ⊎_elim
     (λ (is : one ≡ mid). sym is)
@@ -95,32 +112,43 @@ not-newer-same one mid other first second same =
 -- ---- replays
 
 -- a server after more changes is as it was, or has a later stamp
-pub replays-not-newer : (s : Settings) (seen more : List Change) (then now : List ServerState) (at : ℕ) → Replays s seen then
+pub replays-not-newer : (s : Settings) (seen more : List Change) (then now : List ServerState)
+    (at : ℕ) → Replays s seen then
     → Replays s (seen ++ more) now → IsNotNewer (server_at then at) (server_at now at)
 replays-not-newer s seen more then now at was is =
     let both = leads-halves s (opened s).servers now seen more is.leads in
-    let same : both.middle ≡ then = leads-once s (opened s).servers both.middle then seen both.earlier was.leads in
-    subst (λ it. IsNotNewer (server_at it at) (server_at now at)) same (leads-not-newer s both.middle now more at both.later)
+    let same : both.middle ≡ then =
+    leads-once s (opened s).servers both.middle then seen both.earlier was.leads in
+    subst (λ it. IsNotNewer (server_at it at) (server_at now at)) same
+    (leads-not-newer s both.middle now more at both.later)
 
 -- the last change of a history is the sequential tracker's
-pub record IsMadeLast (s : Settings) (servers : List ServerState) (change : Change) (history : List Change) : Type 0 where
+pub record IsMadeLast (s : Settings) (servers : List ServerState) (change : Change)
+    (history : List Change) : Type 0 where
   pub reply : reply_of (tracker_in s servers) change.number change.op change.server ≡ change.reply
-  pub left : Replays s (history ++ change ∷ []) (after (tracker_in s servers) change.number change.op change.server).servers
+  pub left : Replays s (history ++ change ∷ [])
+      (after (tracker_in s servers) change.number change.op change.server).servers
 
-pub replays-last : (s : Settings) (history : List Change) (change : Change) (servers last : List ServerState) → Replays s history servers
+pub replays-last : (s : Settings) (history : List Change) (change : Change)
+    (servers last : List ServerState) → Replays s history servers
     → Replays s (history ++ change ∷ []) last → IsMadeLast s servers change history
 replays-last s history change servers last was is =
     let both = leads-halves s (opened s).servers last history (change ∷ []) is.leads in
-    let same : both.middle ≡ servers = leads-once s (opened s).servers both.middle servers history both.earlier was.leads in
+    let same : both.middle ≡ servers =
+    leads-once s (opened s).servers both.middle servers history both.earlier was.leads in
     let made = subst (λ it. Leads s it (change ∷ []) last) same both.later in
     record {
       reply = made.0;
-      left = record { leads = subst (Leads s (opened s).servers (history ++ change ∷ [])) made.1 is.leads };
+      left = record {
+        leads = subst (Leads s (opened s).servers (history ++ change ∷ []))
+            made.1 is.leads;
+      };
     }
 
 -- ---- a change of one server
 
-changed-other : (servers : List ServerState) (server : ℕ) (change : Option Mark) (at : ℕ) → (at ≡ server → ⊥)
+changed-other : (servers : List ServerState) (server : ℕ) (change : Option Mark) (at : ℕ)
+    → (at ≡ server → ⊥)
     → server_at (changed servers server change) at ≡ server_at servers at
 changed-other servers server None at apart = refl
 changed-other servers server (Some mark) at apart =
@@ -129,22 +157,42 @@ changed-other servers server (Some mark) at apart =
     get_or-set_other servers server at new none apart
 
 -- where a server is another at the end of a history, it was changed
-changed-within : (s : Settings) (first last : List ServerState) (history : List Change) (server : ℕ) → Leads s first history last
+changed-within : (s : Settings) (first last : List ServerState) (history : List Change) (server : ℕ)
+    → Leads s first history last
     → (server_at last server ≡ server_at first server → ⊥) → HasChangeOf server history
-changed-within s first last [] server leads differs = absurd (differs (ap (λ it. server_at it server) leads))
+changed-within s first last [] server leads differs =
+    absurd (differs (ap (λ it. server_at it server) leads))
 changed-within s first last (change ∷ history) server leads differs =
     ⊎_elim
-    (λ (same : server ≡ change.server). record { earlier = []; change = change; later = history; among = refl; on = sym same })
+    (λ (same : server ≡ change.server). record {
+      earlier = [];
+      change = change;
+      later = history;
+      among = refl;
+      on = sym same;
+    })
     (λ (apart : server ≡ change.server → ⊥).
     let it = transition_on (tracker_in s first) change.number change.op change.server in
-    let kept : server_at (next_from s first change) server ≡ server_at first server = changed-other first change.server it.change server apart in
-    let rest = changed-within s (next_from s first change) last history server leads.1 (λ same. differs (same ∙ kept)) in
-    record { earlier = change ∷ rest.earlier; change = rest.change; later = rest.later; among = ap (λ more. change ∷ more) rest.among; on = rest.on })
+    let kept : server_at (next_from s first change) server ≡ server_at first server =
+    changed-other first change.server it.change server apart in
+    let rest = changed-within s (next_from s first change) last history server leads.1
+    (λ same. differs (same ∙ kept)) in
+    record {
+      earlier = change ∷ rest.earlier;
+      change = rest.change;
+      later = rest.later;
+      among = ap (λ more. change ∷ more) rest.among;
+      on = rest.on;
+    })
     (cases_eq server change.server)
 
-pub replays-changed : (s : Settings) (beginning since : List Change) (then now : List ServerState) (server : ℕ) → Replays s beginning then
-    → Replays s (beginning ++ since) now → (server_at now server ≡ server_at then server → ⊥) → HasChangeOf server since
+pub replays-changed : (s : Settings) (beginning since : List Change) (then now : List ServerState)
+    (server : ℕ) → Replays s beginning then
+    → Replays s (beginning ++ since) now → (server_at now server ≡ server_at then server → ⊥)
+    → HasChangeOf server since
 replays-changed s beginning since then now server was is differs =
     let both = leads-halves s (opened s).servers now beginning since is.leads in
-    let same : both.middle ≡ then = leads-once s (opened s).servers both.middle then beginning both.earlier was.leads in
-    changed-within s both.middle now since server both.later (λ e. differs (e ∙ ap (λ it. server_at it server) same))
+    let same : both.middle ≡ then =
+    leads-once s (opened s).servers both.middle then beginning both.earlier was.leads in
+    changed-within s both.middle now since server both.later
+    (λ e. differs (e ∙ ap (λ it. server_at it server) same))

@@ -1,5 +1,7 @@
 pub mod AddedChangeLemmas
+pub mod AllowsEnrolLemmas
 pub mod AllowsLemmas
+pub mod AllowsSoftLemmas
 pub mod AllowsStepLemmas
 pub mod BeginLemmas
 pub mod ChangeLemmas
@@ -12,15 +14,19 @@ pub mod JoinLemmas
 pub mod JoinedLemmas
 pub mod KeptLemmas
 pub mod LeadsLemmas
+pub mod MovedLemmas
+pub mod NoneLeftLemmas
 pub mod OpenLemmas
 pub mod OpeningLemmas
 pub mod OwnedLemmas
 pub mod PassInCallLemmas
 pub mod PlanLemmas
+pub mod SeatsLemmas
 pub mod SharedLemmas
 pub mod SplitLemmas
 pub mod StepLemmas
 pub mod StepTakenLemmas
+pub mod TakesLemmas
 pub mod ThreadChangeLemmas
 pub mod ValueLemmas
 pub mod WordStepLemmas

@@ -14,7 +14,8 @@ use Rattle.tko_table.specs.Steps.{IsLook, IsShift, is_look_at_slots, is_settle}
 -- ---- what a caller knows of a step that it took
 
 -- a look
-pub look-not_slots : (act : Action) → IsLook act → is_look_at_slots act ≡ false → act ≡ action.LookAtServer
+pub look-not_slots : (act : Action) → IsLook act → is_look_at_slots act ≡ false
+    → act ≡ action.LookAtServer
 look-not_slots action.LookAtServer look not_slots = refl
 look-not_slots action.LookAtSlots look not_slots = cc
 look-not_slots (action.Exchange found mark) look not_slots = absurd look
@@ -51,7 +52,8 @@ shift-loosen action.Loosen shift e = refl
 shift-loosen action.Give shift e = absurd shift
 
 -- a call that does not begin is under way
-pub under-way : (state : ThreadState) (call : Call) (phase : Phase) → in_call state call.op call.server ≡ InCall call phase
+pub under-way : (state : ThreadState) (call : Call) (phase : Phase)
+    → in_call state call.op call.server ≡ InCall call phase
     → action_of call.number phase ≡ action.LookAtSlots → state ≡ InCall call phase
 under-way NotEnrolled call phase stands slots = cc
 under-way (Idle number) call phase stands slots =

@@ -1,7 +1,7 @@
 use Rattle.std.proofs.Common.{◌≡◌, ◌+◌, ◌++◌, ◌∷◌, [], arith, length, rules, subst, sym}
 use Rattle.tko_table.specs.Opening.{AreSeats}
 use Rattle.tko_table.specs.Steps.{view_of}
-use Rattle.tko_table.proofs.OpeningLemmas.{last-pass, seat-made, seats-push}
+use Rattle.tko_table.proofs.SeatsLemmas.{last-pass, seat-made, seats-push}
 use Rattle.tko_table.proofs.words.Words.split_all.Goals as goal
 
 pub returns-clause-seats : goal.returns-clause-seats
