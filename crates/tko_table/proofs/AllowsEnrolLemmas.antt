@@ -28,8 +28,9 @@ All-right P [] other all = all
 All-right P (pass ∷ one) other all = All-right P one other (All-tail P pass (one ++ other) all)
 
 -- the passes of one seat have seen beginnings of the history
-pub seen-view : (P : PassView → Type 0) (views : List (List PassView)) (id : ℕ) (view : List
-    PassView) → get_elem? views id ≡ some view → All P (joined_passes views) → All P view
+pub seen-view : (P : PassView → Type 0) (views : List (List PassView)) (id : ℕ)
+    (view : List PassView) → get_elem? views id ≡ some view
+    → All P (joined_passes views) → All P view
 seen-view P [] id view e all = absurd (some-ne-none view (sym e))
 seen-view P (first ∷ views) zero view e all =
     subst (All P) (some-injective first view e) (All-left P first (joined_passes views) all)

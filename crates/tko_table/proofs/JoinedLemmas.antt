@@ -27,8 +27,8 @@ one-head : (old : PassView) (passes : List PassView)
 one-head old passes =
     record { place = zero; inside = omega arith; at = λ d. refl; sets = λ new. refl }
 
-one-cons : (first : PassView) (passes : List PassView) (old : PassView) (with_new : PassView
-    → List PassView) → IsOneOf passes old with_new
+one-cons : (first : PassView) (passes : List PassView) (old : PassView)
+    (with_new : PassView → List PassView) → IsOneOf passes old with_new
     → IsOneOf (first ∷ passes) old (λ new. first ∷ with_new new)
 one-cons first passes old with_new one =
     record {

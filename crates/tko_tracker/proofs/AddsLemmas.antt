@@ -1,92 +1,40 @@
 -- What a call under way has added to the history, from step to step.
-use Rattle.std.proofs.Common.{◌≡◌, ◌≢◌, ℕ, ◌+◌, ◌<◌, ◌≤◌, true, false, ⊎_elim, arith, List, [], ◌∷◌, ◌++◌, length, All, refl, sym, ap, ◌∙◌, subst}
+use Rattle.std.proofs.Common.{◌≡◌, ℕ, ◌+◌, ◌<◌, true, false, ⊎_elim, arith, List, [], ◌∷◌, ◌++◌}
+use Rattle.std.proofs.Common.{length, All, refl, sym, ap, ◌∙◌, subst}
 use Rattle.std.proofs.lemmas.Bool.{cases_Bool}
 use Rattle.std.proofs.lemmas.List.{append-nil, append_assoc}
-use Rattle.tko_model.specs.declared.mark.Mark.{Mark}
 use Rattle.tko_model.specs.declared.mark.Op.{Op}
-use Rattle.tko_model.specs.declared.mark.Reply.{Reply}
-use Rattle.tko_model.specs.declared.mark.Reply.TheVariants.{Contended}
 use Rattle.tko_model.specs.Settings.{Settings}
 use Rattle.tko_model.specs.declared.state.ServerState.{ServerState}
-use Rattle.tko_model.specs.Tracker.{server_at}
 use Rattle.tko_steps.specs.declared.phase.Call.{Call}
 use Rattle.tko_steps.specs.declared.phase.Phase.{Phase}
-use Rattle.tko_steps.specs.declared.phase.Phase.TheVariants.{Start, Read, AtThreshold, Limit, Reserving, Holding, Firming, Losing, Loosening, Loosened, Emptied}
-use Rattle.tko_steps.specs.declared.table.Action.TheVariants.{Exchange}
 use Rattle.tko_steps.specs.declared.table.Decision.{Decision}
 use Rattle.tko_steps.specs.declared.table.Decision.TheVariants.{Goes, Answers}
 use Rattle.tko_steps.specs.declared.table.Observed.{Observed}
-use Rattle.tko_steps.specs.declared.table.Observed.TheVariants as seen
-use Rattle.tko_steps.specs.Core.{Shared, seen_by, shared_after}
-use Rattle.tko_steps.specs.Steps.{decided_state, is_done, is_marked_state}
-use Rattle.tko_steps.specs.Table.{action_of, next_of, same_server}
+use Rattle.tko_steps.specs.Core.{seen_by, shared_after}
+use Rattle.tko_steps.specs.Steps.{decided_state, is_done}
+use Rattle.tko_steps.specs.Table.{action_of, next_of}
 use Rattle.tko_table.specs.declared.pass.Change.{Change}
 use Rattle.tko_table.specs.declared.pass.PassView.{PassView}
 use Rattle.tko_table.specs.History.{Replays, changes_in, made_by, made_with}
 use Rattle.tko_table.specs.Passes.{changes_by, decided_after, mine_after, pending, pending_at}
-use Rattle.tko_table.specs.Rule.{IsPlanned, IsPlannedAt}
+use Rattle.tko_table.specs.Rule.{IsPlanned}
 use Rattle.tko_table.specs.Steps.{Takes}
-use Rattle.tko_table.proofs.AddedChangeLemmas.{IsSure, made_by-append, told-next}
+use Rattle.tko_table.proofs.AddedChangeLemmas.{made_by-append, told-next}
 use Rattle.tko_table.proofs.ThreadChangeLemmas.{made-changes}
 use Rattle.tko_table.proofs.PlanLemmas.{plans-next}
 use Rattle.tko_tracker.specs.Calls.{IsStep}
-use Rattle.tko_tracker.specs.History.{IsAnsweredAt}
 use Rattle.tko_tracker.proofs.KnowsLemmas.{KnowsAt}
-use Rattle.tko_tracker.proofs.PlaceLemmas.{PlaceAfter, PlaceAt}
-use Rattle.tko_tracker.proofs.PlaceStepLemmas.{is_start, place-next, start-at-end}
-use Rattle.tko_tracker.proofs.SoloLemmas.{SoloAfter, SoloAt, none-other, solo-next}
+use Rattle.tko_tracker.proofs.PlaceLemmas.{PlaceAfter, PlaceAt, is_start, start-at-end}
+use Rattle.tko_tracker.proofs.PlaceStepLemmas.{place-next}
+use Rattle.tko_tracker.proofs.SoloLemmas.{SoloAfter, SoloAt, solo-next}
+use Rattle.tko_tracker.proofs.OneThreadLemmas.{none-other}
+use Rattle.tko_tracker.proofs.AddedLemmas.{HasAdded, HasAddedAfter, sure-at}
 
--- what a call at this phase has added, where its pass was the first as it began
-pub record HasAdded (s : Settings) (first now : PassView) (call : Call) (phase : Phase) : Type 0 where
-  pub more : List Change
-  pub seen : now.seen ≡ first.seen ++ more
-  pub own : made_by call.number more ≡ pending_at call phase
-  pub mine : now.mine ≡ first.mine
-  pub planned : IsPlannedAt s call phase
-  pub place : PlaceAt s call.number call.op call.server first.seen now.seen now.decided_at phase
-  pub steps : first.steps ≤ now.steps
-  pub later : is_start phase ≡ false → first.steps < now.steps
-  pub alone : s.threads ≡ 1 → SoloAt s call.server first.seen now.seen now.decided_at phase
-
--- the same where the call ended
-pub record HasEnded (s : Settings) (first now : PassView) (call : Call) (answer : Reply) : Type 0 where
-  pub at : ℕ
-  pub more : List Change
-  pub seen : now.seen ≡ first.seen ++ more
-  pub own : made_by call.number more ≡ changes_in call.number (made_with call answer at ∷ [])
-  pub mine : now.mine ≡ first.mine ++ made_with call answer at ∷ []
-  pub decided : answer ≢ Contended → IsAnsweredAt s call.number call.op call.server answer at first.seen now.seen
-  pub stepped : first.steps < now.steps
-  pub at_once : now.steps ≡ first.steps + 1 → at ≡ length now.seen
-  pub alone : s.threads ≡ 1 → (answer ≢ Contended) × (at ≡ length first.seen)
-
-abbrev pub HasAddedAfter : Settings → PassView → PassView → Call → Decision → Type 0
-HasAddedAfter s first now call (Goes lost phase) = HasAdded s first now (record call { lost = lost }) phase
-HasAddedAfter s first now call (Answers answer) = HasEnded s first now call answer
-
-pub added-none : (s : Settings) (first : PassView) (call : Call) → HasAdded s first first call Start
-added-none s first call = record { more = []; seen = sym (append-nil first.seen); own = refl; mine = refl; planned = tt; place = tt; steps = omega arith; later = λ e. cc; alone = λ one. refl }
-
--- a thread does not lose the exchange of its own mark
-sure-at : (s : Settings) (op : Op) (base owned : List ℕ) (call : Call) (shared : Shared) (read : Observed) (phase : Phase)
-    → KnowsAt op call.server base owned phase → read ≡ seen_by s shared call.server (action_of call.number phase)
-    → ((found : ServerState) (mark : Mark) → action_of call.number phase ≡ Exchange found mark → is_marked_state found.mark ≡ true → read ≡ seen.Done true)
-    → IsSure call shared phase
-sure-at s op base owned call shared read Start knows reads sure = tt
-sure-at s op base owned call shared read (Read found mark answer) knows reads sure = tt
-sure-at s op base owned call shared read (AtThreshold found) knows reads sure = tt
-sure-at s op base owned call shared read (Limit found) knows reads sure = tt
-sure-at s op base owned call shared read (Reserving found slots) knows reads sure = tt
-sure-at s op base owned call shared read (Holding found) knows reads sure = tt
-sure-at s op base owned call shared read Firming knows reads sure = tt
-sure-at s op base owned call shared read Losing knows reads sure = tt
-sure-at s op base owned call shared read (Loosening found mark answer) knows reads sure = tt
-sure-at s op base owned call shared read (Loosened found mark answer) knows reads sure =
-    let both : seen.Done (same_server (server_at shared.servers call.server) found) ≡ seen.Done true = sym reads ∙ sure found mark refl knows.3 in cc
-sure-at s op base owned call shared read (Emptied answer) knows reads sure = tt
-
-module _ (s : Settings) (first now mid : PassView) (call : Call) (phase : Phase) (read : Observed) (has : HasAdded s first now call phase)
-    (settings : now.settings ≡ s) (within : call.number < s.threads) (op : Op) (base owned : List ℕ) (knows : KnowsAt op call.server base owned phase)
+module _ (s : Settings) (first now mid : PassView) (call : Call) (phase : Phase) (read : Observed)
+    (has : HasAdded s first now call phase)
+    (settings : now.settings ≡ s) (within : call.number < s.threads) (op : Op) (base owned : List ℕ)
+    (knows : KnowsAt op call.server base owned phase)
     (step : IsStep now call phase read mid) where
   abbrev takes : Takes now call phase read mid
   takes = step.takes
@@ -110,21 +58,27 @@ module _ (s : Settings) (first now mid : PassView) (call : Call) (phase : Phase)
   own-mid : made_by call.number more ≡ pending_at call phase ++ changes
   own-mid =
       made_by-append call.number (has.more ++ takes.between) changes
-      ∙ ap (λ it. it ++ made_by call.number changes) (made_by-append call.number has.more takes.between)
+      ∙ ap (λ it. it ++ made_by call.number changes)
+      (made_by-append call.number has.more takes.between)
       ∙ (λ i. (has.own i ++ takes.others i) ++ made-changes call phase (is_done read) i)
       ∙ ap (λ it. it ++ changes) (append-nil (pending_at call phase))
 
   reads-here : read ≡ seen_by s takes.core.shared call.server (action_of call.number phase)
-  reads-here = takes.reads ∙ ap (λ (it : Settings). seen_by it takes.core.shared call.server (action_of call.number phase)) settings
+  reads-here = takes.reads ∙ ap (λ (it : Settings).
+      seen_by it takes.core.shared call.server (action_of call.number phase)) settings
 
   abbrev decision : Decision
   decision = next_of s call phase read
 
-  adds : changes_in call.number (mine_after [] call decision at) ++ pending (decided_state call decision) ≡ pending_at call phase ++ changes
+  adds : changes_in call.number (mine_after [] call decision at)
+      ++ pending (decided_state call decision) ≡ pending_at call phase ++ changes
   adds =
-      let sure = sure-at s op base owned call takes.core.shared read phase knows reads-here step.sure in
+      let sure =
+      sure-at s op base owned call takes.core.shared read phase knows reads-here step.sure in
       let told = told-next s call [] at takes.core.shared phase has.planned sure in
-      let P : Observed → Type 0 = λ it. changes_in call.number (mine_after [] call (next_of s call phase it) at) ++ pending (decided_state call (next_of s call phase it))
+      let P : Observed → Type 0 =
+      λ it. changes_in call.number (mine_after [] call (next_of s call phase it) at)
+      ++ pending (decided_state call (next_of s call phase it))
       ≡ pending_at call phase ++ changes_by call phase (is_done it) in
       subst P (sym reads-here) told
 
@@ -136,7 +90,8 @@ module _ (s : Settings) (first now mid : PassView) (call : Call) (phase : Phase)
 
   planned-mid : IsPlanned s (decided_state call decision)
   planned-mid =
-      let P : Observed → Type 0 = λ it. IsPlanned s (decided_state call (next_of s call phase it)) in
+      let P : Observed → Type 0 =
+      λ it. IsPlanned s (decided_state call (next_of s call phase it)) in
       subst P (sym reads-here) (plans-next s call takes.core.shared phase has.planned)
 
   abbrev last : List ServerState
@@ -155,21 +110,29 @@ module _ (s : Settings) (first now mid : PassView) (call : Call) (phase : Phase)
   place-mid =
       let history = now.seen ++ takes.between in
       let core = takes.core in
-      let found : Replays s history core.shared.servers = subst (λ it. Replays it history core.shared.servers) settings takes.found in
-      let left : Replays s (history ++ changes) last = subst (λ it. Replays s it last) seen-is (subst (λ (it : Settings). Replays it mid.seen (shared_after it takes.core.shared call.server (action_of call.number phase)).servers) settings takes.left) in
+      let found : Replays s history core.shared.servers =
+      subst (λ it. Replays it history core.shared.servers) settings takes.found in
+      let left : Replays s (history ++ changes) last = subst (λ it. Replays s it last) seen-is
+      (subst (λ (it : Settings). Replays it mid.seen (shared_after it takes.core.shared
+      call.server (action_of call.number phase)).servers) settings takes.left) in
       let sure = sure-at s op base owned call core.shared read phase knows reads-here step.sure in
-      let P : Observed → Type 0 = λ it. Replays s (history ++ changes_by call phase (is_done it)) last
-      → PlaceAfter s call.number call.op call.server first.seen (history ++ changes_by call phase (is_done it)) at (next_of s call phase it) in
-      let next = place-next s first.seen has.more now.seen takes.between has.seen now.decided_at call core takes.is_found.is
+      let P : Observed → Type 0 =
+      λ it. Replays s (history ++ changes_by call phase (is_done it)) last
+      → PlaceAfter s call.number call.op call.server first.seen
+      (history ++ changes_by call phase (is_done it)) at (next_of s call phase it) in
+      let next = place-next s first.seen has.more now.seen takes.between has.seen now.decided_at
+      call core takes.is_found.is
       (takes.is_found.settings ∙ settings) found last phase has.place has.planned sure in
-      subst (λ it. PlaceAfter s call.number call.op call.server first.seen it at decision) (sym seen-is)
+      subst (λ it. PlaceAfter s call.number call.op call.server first.seen it at decision)
+      (sym seen-is)
       (subst P (sym reads-here) next left)
 
   at-once : mid.steps ≡ first.steps + 1 → at ≡ length mid.seen
   at-once e =
       ⊎_elim
       (λ (is : is_start phase ≡ true).
-      let both = start-at-end call phase (is_done read) now.decided_at (length (now.seen ++ takes.between)) (now.seen ++ takes.between) is in
+      let both = start-at-end call phase (is_done read) now.decided_at
+      (length (now.seen ++ takes.between)) (now.seen ++ takes.between) is in
       both.0 ∙ sym (ap length (seen-is ∙ both.1)))
       (λ (is : is_start phase ≡ false). absurd (omega (arith, e, steps-is, has.later is)))
       (cases_Bool (is_start phase))
@@ -182,27 +145,38 @@ module _ (s : Settings) (first now mid : PassView) (call : Call) (phase : Phase)
       let single : core.settings.threads ≡ 1 = ap (λ (it : Settings). it.threads) its ∙ one in
       let P : ℕ → Type 0 = λ n. All (λ (change : Change). change.number < n) takes.between in
       let drawn = subst P (ap (λ (it : Settings). it.threads) settings ∙ one) takes.drawn in
-      let none : takes.between ≡ [] = none-other call.number takes.between (subst (λ n. call.number < n) one within) drawn takes.others in
+      let none : takes.between ≡ [] = none-other call.number takes.between
+      (subst (λ n. call.number < n) one within) drawn takes.others in
       let Q : List Change → Type 0 = λ it. Replays s (now.seen ++ it) core.shared.servers in
-      let replays = subst Q none (subst (λ it. Replays it (now.seen ++ takes.between) core.shared.servers) settings takes.found) in
-      let next = solo-next s first.seen now.seen now.decided_at call core found.thread found.is found.inside single its replays phase found.stands (has.alone one) in
+      let replays = subst Q none (subst (λ it.
+      Replays it (now.seen ++ takes.between) core.shared.servers) settings takes.found) in
+      let next = solo-next s first.seen now.seen now.decided_at call core found.thread found.is
+      found.inside single its replays phase found.stands (has.alone one) in
       let R : List Change → Type 0 = λ it.
-      SoloAfter s call.server first.seen ((now.seen ++ it) ++ changes_by call phase (is_done (seen_by s core.shared call.server (action_of call.number phase))))
-      (decided_after phase now.decided_at (length (now.seen ++ it))) (next_of s call phase (seen_by s core.shared call.server (action_of call.number phase))) in
-      let T : Observed → Type 0 = λ it. SoloAfter s call.server first.seen ((now.seen ++ takes.between) ++ changes_by call phase (is_done it)) at (next_of s call phase it) in
-      subst (λ it. SoloAfter s call.server first.seen it at decision) (sym seen-is) (subst T (sym reads-here) (subst R (sym none) next))
+      SoloAfter s call.server first.seen ((now.seen ++ it) ++ changes_by call phase
+      (is_done (seen_by s core.shared call.server (action_of call.number phase))))
+      (decided_after phase now.decided_at (length (now.seen ++ it))) (next_of s call phase
+      (seen_by s core.shared call.server (action_of call.number phase))) in
+      let T : Observed → Type 0 =
+      λ it. SoloAfter s call.server first.seen ((now.seen ++ takes.between)
+      ++ changes_by call phase (is_done it)) at (next_of s call phase it) in
+      subst (λ it. SoloAfter s call.server first.seen it at decision) (sym seen-is)
+      (subst T (sym reads-here) (subst R (sym none) next))
 
   after-by : (it : Decision) → decision ≡ it → HasAddedAfter s first mid call it
   after-by (Goes lost next) is =
-      let P : Decision → Type 0 = λ d. changes_in call.number (mine_after [] call d at) ++ pending (decided_state call d) ≡ pending_at call phase ++ changes in
+      let P : Decision → Type 0 = λ d. changes_in call.number (mine_after [] call d at)
+      ++ pending (decided_state call d) ≡ pending_at call phase ++ changes in
       record {
         more = more;
         seen = seen-mid;
         own = own-mid ∙ sym (subst P is adds);
         mine = mine-mid ∙ ap (λ d. mine_after first.mine call d at) is;
         planned = subst (λ d. IsPlanned s (decided_state call d)) is planned-mid;
-        place = subst (λ n. PlaceAt s call.number call.op call.server first.seen mid.seen n next) (sym decided-is)
-            (subst (PlaceAfter s call.number call.op call.server first.seen mid.seen at) is place-mid);
+        place = subst (λ n. PlaceAt s call.number call.op call.server first.seen mid.seen n next)
+            (sym decided-is)
+            (subst (PlaceAfter s call.number call.op call.server first.seen mid.seen at)
+            is place-mid);
         steps = omega (arith, has.steps, steps-is);
         later = λ e. omega (arith, has.steps, steps-is);
         alone = λ one.
@@ -210,14 +184,17 @@ module _ (s : Settings) (first now mid : PassView) (call : Call) (phase : Phase)
             (subst (SoloAfter s call.server first.seen mid.seen at) is (alone-mid one));
       }
   after-by (Answers answer) is =
-      let P : Decision → Type 0 = λ d. changes_in call.number (mine_after [] call d at) ++ pending (decided_state call d) ≡ pending_at call phase ++ changes in
+      let P : Decision → Type 0 = λ d. changes_in call.number (mine_after [] call d at)
+      ++ pending (decided_state call d) ≡ pending_at call phase ++ changes in
       record {
         at = at;
         more = more;
         seen = seen-mid;
-        own = own-mid ∙ sym (subst P is adds) ∙ append-nil (changes_in call.number (made_with call answer at ∷ []));
+        own = own-mid ∙ sym (subst P is adds)
+            ∙ append-nil (changes_in call.number (made_with call answer at ∷ []));
         mine = mine-mid ∙ ap (λ d. mine_after first.mine call d at) is;
-        decided = subst (PlaceAfter s call.number call.op call.server first.seen mid.seen at) is place-mid;
+        decided = subst (PlaceAfter s call.number call.op call.server first.seen mid.seen at)
+            is place-mid;
         stepped = omega (arith, has.steps, steps-is);
         at_once = at-once;
         alone = λ one. subst (SoloAfter s call.server first.seen mid.seen at) is (alone-mid one);

@@ -1,11 +1,15 @@
+pub mod AddedLemmas
 pub mod AddsLemmas
 pub mod ClosingLemmas
 pub mod KnowsLemmas
 pub mod KnowsStartLemmas
 pub mod KnowsStepLemmas
 pub mod LookLemmas
+pub mod LookUpLemmas
+pub mod OneThreadLemmas
 pub mod OwnedLemmas
 pub mod PassLemmas
+pub mod PastLemmas
 pub mod PlaceLemmas
 pub mod PlaceStepLemmas
 pub mod ReleasedLemmas

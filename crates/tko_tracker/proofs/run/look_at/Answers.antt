@@ -1,6 +1,6 @@
 use Rattle.std.proofs.Common.{refl, rules}
 use Rattle.tko_steps.specs.declared.table.Observed.TheVariants as seen
-use Rattle.tko_tracker.proofs.RunStepLemmas.{looked-up}
+use Rattle.tko_tracker.proofs.LookUpLemmas.{looked-up}
 use Rattle.tko_tracker.proofs.run.look_at.Goals as goal
 
 pub returns-clause-ran : goal.returns-clause-ran
