@@ -41,8 +41,9 @@ made_by-append number (change ∷ one) other =
     let all = made_by number (one ++ other) in
     cond_both (eqb change.number number) (change ∷ all) all
     (λ it. it ≡ made_by number (change ∷ one) ++ made_by number other)
-    (λ e. ap (λ it. change ∷ it) rest ∙ ap (λ it. it ++ made_by number other) (sym (cond-true
-    (eqb change.number number) (change ∷ made_by number one) (made_by number one) e)))
+    (λ e. ap (λ it. change ∷ it) rest
+    ∙ ap (λ it. it ++ made_by number other) (sym (cond-true (eqb change.number number)
+    (change ∷ made_by number one) (made_by number one) e)))
     (λ e. rest ∙ ap (λ it. it ++ made_by number other) (sym (cond-false (eqb change.number number)
     (change ∷ made_by number one) (made_by number one) e)))
 
@@ -75,8 +76,9 @@ changes_in-append number (made ∷ one) other =
     let change = change_of number made in
     cond_both (is_change made.reply) (change ∷ all) all
     (λ it. it ≡ changes_in number (made ∷ one) ++ changes_in number other)
-    (λ e. ap (λ it. change ∷ it) rest ∙ ap (λ it. it ++ changes_in number other) (sym (cond-true
-    (is_change made.reply) (change ∷ changes_in number one) (changes_in number one) e)))
+    (λ e. ap (λ it. change ∷ it) rest
+    ∙ ap (λ it. it ++ changes_in number other) (sym (cond-true (is_change made.reply)
+    (change ∷ changes_in number one) (changes_in number one) e)))
     (λ e. rest ∙ ap (λ it. it ++ changes_in number other) (sym (cond-false (is_change made.reply)
     (change ∷ changes_in number one) (changes_in number one) e)))
 
@@ -189,8 +191,9 @@ module _ (s : Settings) (call : Call) (mine : List Made) (at : ℕ) where
       (cond (eqb ((slots_at shared.slots (group_of s call.server)).firm + (slots_at shared.slots
       (group_of s call.server)).held) (limit_at s call.server)) (lost_try s call)
       (goes call (Reserving found (slots_at shared.slots (group_of s call.server))))) refl
-      (calm-both call (eqb ((slots_at shared.slots (group_of s call.server)).firm + (slots_at
-      shared.slots (group_of s call.server)).held) (limit_at s call.server)) (lost_try s call)
+      (calm-both call (eqb ((slots_at shared.slots (group_of s call.server)).firm
+      + (slots_at shared.slots (group_of s call.server)).held) (limit_at s call.server))
+      (lost_try s call)
       (goes call (Reserving found (slots_at shared.slots (group_of s call.server))))
       (calm-lost_try s call) refl))
   told-next shared (Limit found) planned knows =

@@ -51,8 +51,8 @@ allows-enrol s slots id me some_wait state kept homes at fits =
     let next : (number + 1) % 2 ^ 64 ≡ number + 1 = omega (arith, few_drawn) in
     let same_settings = λ (pass : PassView) (rest : List PassView) (is : me.0 ≡ pass ∷ rest).
     All-head (λ (at : PassView). at.settings ≡ s) pass rest
-    (subst (All (λ (at : PassView). at.settings ≡ s)) is (seen-view
-    (λ (at : PassView). at.settings ≡ s) state.views id me.0 at kept.core.settings)) in (
+    (subst (All (λ (at : PassView). at.settings ≡ s)) is
+    (seen-view (λ (at : PassView). at.settings ≡ s) state.views id me.0 at kept.core.settings)) in (
       first.earlier ++ enrolled_pass first.pass number kept.history ∷ first.later,
       keeps,
       tt,

@@ -140,8 +140,8 @@ module _ (core : CoreState) (thread : ℕ) (call : Call) (is : IsCore core)
   effect-of (Reserving found slots) stands planned =
       let P : Bool → Type 0 = λ won. Effect core.settings call (abstract_of core)
       (abstract_of core) owned owned (cond won [] []) in
-      elim (cases_Bool (same_slots
-      (slots_at core.shared.slots (group_of core.settings call.server)) slots)) as (λ test.
+      elim (cases_Bool (same_slots (slots_at core.shared.slots (group_of core.settings call.server))
+      slots)) as (λ test.
       P (same_slots (slots_at core.shared.slots (group_of core.settings call.server)) slots)) [
         | inl won ↦ subst P (sym won) quiet
         | inr lost ↦ subst P (sym lost) quiet

@@ -182,8 +182,9 @@ module _ (s : Settings) (words : List ℕ) (views : List (List PassView)) (id : 
               (IsCore-after_enrol core one.place kept.core.core inside stands_in);
           owned = subst (λ it. All (PassOwnsItsMarks it)
               (joined_passes (set views id (before ++ new ∷ rest)))) same_servers
-              (subst (All (PassOwnsItsMarks servers)) (sym (one.sets new)) (All-set
-              (PassOwnsItsMarks servers) passes one.place new owned_now kept.core.owned));
+              (subst (All (PassOwnsItsMarks servers)) (sym (one.sets new))
+              (All-set (PassOwnsItsMarks servers) passes one.place new owned_now
+              kept.core.owned));
           settings = subst (All (λ (at : PassView). at.settings ≡ s)) (sym (one.sets new))
               (All-set (λ (at : PassView). at.settings ≡ s) passes one.place new
               (subst (λ (at : PassView). at.settings ≡ s) (one.at pass)

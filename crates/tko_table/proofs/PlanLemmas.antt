@@ -64,8 +64,9 @@ module _ (s : Settings) (call : Call) (shared : Shared) where
       (group_of s call.server)).held) (limit_at s call.server)) (lost_try s call)
       (goes call (Reserving found (slots_at shared.slots (group_of s call.server)))))
       planned
-      (either s call (eqb ((slots_at shared.slots (group_of s call.server)).firm + (slots_at
-      shared.slots (group_of s call.server)).held) (limit_at s call.server)) (lost_try s call)
+      (either s call (eqb ((slots_at shared.slots (group_of s call.server)).firm
+      + (slots_at shared.slots (group_of s call.server)).held) (limit_at s call.server))
+      (lost_try s call)
       (goes call (Reserving found (slots_at shared.slots (group_of s call.server))))
       (plans-lost_try s call) planned)
   plans-next (Limit found) planned =

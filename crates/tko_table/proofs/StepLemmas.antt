@@ -168,8 +168,9 @@ pub slots-within : (s : Settings) (words : List ℕ) (views : List (List PassVie
 slots-within s words views server kept =
     let there = slots-there s words (group_of s server) (slots-inside s words views server kept) in
     let P : Slots → Type 0 = λ it. IsWithinLimit s server it in
-    subst P there (record
-    { room = (own-group (core_in s words (joined_passes views)) server kept.core.core).room })
+    subst P there (record {
+      room = (own-group (core_in s words (joined_passes views)) server kept.core.core).room;
+    })
 
 -- ---- looks
 

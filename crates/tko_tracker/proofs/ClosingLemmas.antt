@@ -104,7 +104,7 @@ gathered-start tracker passes left number seat value has is all of =
 
 pub gathered-step : (tracker : TrackerId) (passes left rest : List Seated)
     (view new : List PassView) (number : ℕ) (seat : Seat (Unit {0}) (List PassView))
-        (value : Seated)
+    (value : Seated)
     → IsGathered passes view left → HasIdlePass number seat → seated seat ≡ value
     → left ≡ value ∷ rest → new ≡ view ++ view_of seat
     → All (IsOf tracker) left → IsGathered passes new rest × All (IsOf tracker) rest
