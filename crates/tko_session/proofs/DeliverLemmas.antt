@@ -1,5 +1,7 @@
--- One delivery: nothing was answered, all of it was answered and written, memory ran out, or the writer failed.
-use Rattle.std.proofs.Common.{◌≡◌, ◌≢◌, ℕ, Bool, ◌<◌, List, [], ◌++◌, refl, sym, ap, subst, ◌∙◌, append-nil, arith, false, Result, Ok, Err}
+-- One delivery: nothing was answered, all of it was answered and written, memory ran out, or the
+-- writer failed.
+use Rattle.std.proofs.Common.{◌≡◌, ◌≢◌, ℕ, Bool, ◌<◌, List, [], ◌++◌, refl, sym, ap, subst, ◌∙◌}
+use Rattle.std.proofs.Common.{append-nil, arith, false, Result, Ok, Err}
 use Rattle.tko_model.proofs.RecordLemmas.{gains_append}
 use Rattle.tko_io.specs.declared.io.Outlet.{Ghosts as OutletGhosts}
 use Rattle.tko_reply.specs.declared.parts.Parts.{Parts}
@@ -14,8 +16,11 @@ use Rattle.tko_session.specs.AnswerEnds.{AnsweringEnds, IsRun}
 use Rattle.tko_session.specs.Ends.{AllDelivered, ShortOfMemory, WriterFailed}
 use Rattle.tko_session.specs.Events.{Effects, turns_of}
 use Rattle.tko_session.specs.Batches.{EndInBatch}
-use Rattle.tko_session.specs.SessionState.{SessionState, Snapshot, HasAnswered, AnsweredPart, InSession, ProgressIs, items_of, snapshot, replies_text, stop_point}
-use Rattle.tko_session.specs.Served.{DeliveredPart, DeliveryState, EndsAt, at_once, delivering, delivery}
+use Rattle.tko_session.specs.SessionState.{SessionState, Snapshot, HasAnswered, AnsweredPart}
+use Rattle.tko_session.specs.SessionState.{InSession, ProgressIs, items_of, snapshot, replies_text}
+use Rattle.tko_session.specs.SessionState.{stop_point}
+use Rattle.tko_session.specs.Served.{DeliveredPart, DeliveryState, EndsAt, at_once, delivering}
+use Rattle.tko_session.specs.Served.{delivery}
 use Rattle.tko_session.proofs.EventLemmas.{idles-append, order-append, short-last, work-short}
 use Rattle.tko_session.proofs.AnsweredLemmas.{counts_append, part_none, turned_append}
 use Rattle.tko_session.proofs.PaidLemmas.{items-paid, paid, text-paid, turned_paid}
@@ -24,7 +29,8 @@ use Rattle.tko_session.proofs.DeliveryEndLemmas.{ends_paid, ends_settled, one_ba
 
 module _ {O W : Type 0} {outlet : OutletGhosts O} {does : Effects W} where
   -- items were answered, and the front of their replies was written
-  part_delivered : {old : DeliveryState O W} {mid : Snapshot W} {new : DeliveryState O W} (front unwritten : List ℕ)
+  part_delivered : {old : DeliveryState O W} {mid : Snapshot W} {new : DeliveryState O W}
+      (front unwritten : List ℕ)
       → (part : AnsweredPart does old.session mid)
       → EndsAt does (stop_point part.events part.left part.reached) new.session.parts
       → old.session.state.outbox ≡ [] → mid.state.outbox ≡ front ++ unwritten
@@ -51,15 +57,19 @@ module _ {O W : Type 0} {outlet : OutletGhosts O} {does : Effects W} where
   }
 
   -- nothing was answered
-  pub not_delivered : (state state' : SessionState) (parts : W) (writer : O) (written : ℕ) → outlet.takes writer [] writer
+  pub not_delivered : (state state' : SessionState) (parts : W) (writer : O) (written : ℕ)
+      → outlet.takes writer [] writer
       → state.outbox ≡ [] → state.owes ≡ false
-      → ShortOfMemory (delivering outlet does) (delivery state parts writer written) (delivery state' parts writer written)
+      → ShortOfMemory (delivering outlet does) (delivery state parts writer written)
+      (delivery state' parts writer written)
   unfolding part_delivered
   not_delivered state state' parts writer written nothing_out empty none =
-      let part : AnsweredPart does (snapshot state parts) (snapshot state parts) = part_none state state parts refl none none in
+      let part : AnsweredPart does (snapshot state parts) (snapshot state parts) =
+      part_none state state parts refl none none in
       record {
         part =
-            part_delivered [] [] part (ends_settled (work-short part.events part.at_once) part.behind none) empty empty
+            part_delivered [] [] part
+            (ends_settled (work-short part.events part.at_once) part.behind none) empty empty
             (writes_none writer written nothing_out);
         whole = refl;
         calm = refl;
@@ -67,34 +77,45 @@ module _ {O W : Type 0} {outlet : OutletGhosts O} {does : Effects W} where
 
 module _ {O H L T C : Type 0} {outlet : OutletGhosts O} {ghosts : PartsGhosts H L T C} where
   -- items were answered, their replies were written, the owed round was run, and no reply waits
-  pub all_of : {progress : Progress} {old : DeliveryState O (Parts H L T C)} {mid : Snapshot (Parts H L T C)} {state : SessionState}
+  pub all_of : {progress : Progress} {old : DeliveryState O (Parts H L T C)}
+      {mid : Snapshot (Parts H L T C)} {state : SessionState}
       {after : Parts H L T C} {writer : O} {written : ℕ}
-      → HasAnswered (effects_of ghosts) progress old.session mid → IsRun ghosts.backend mid false after
-      → old.session.state.outbox ≡ [] → Writes outlet.takes (old.writer, old.written) mid.state.outbox (writer, written)
-      → outlet.failures writer ≡ outlet.failures old.writer → state ≡ record mid.state { outbox = []; owes = false }
-      → AllDelivered (delivering outlet (effects_of ghosts)) progress old (delivery state after writer written)
-  all_of {progress} {old} {mid} {state} {after} {writer} {written} answered run empty wrote calm is =
+      → HasAnswered (effects_of ghosts) progress old.session mid
+      → IsRun ghosts.backend mid false after
+      → old.session.state.outbox ≡ []
+      → Writes outlet.takes (old.writer, old.written) mid.state.outbox (writer, written)
+      → outlet.failures writer ≡ outlet.failures old.writer
+      → state ≡ record mid.state { outbox = []; owes = false }
+      → AllDelivered (delivering outlet (effects_of ghosts)) progress old
+      (delivery state after writer written)
+  all_of {progress} {old} {mid} {state} {after} {writer}
+      {written} answered run empty wrote calm is =
       let it = paid {ghosts = ghosts} run in
       let text : mid.state.outbox ≡ replies_text (turns_of (answered.events ++ it.last)) =
-      answered.outbox ∙ ap (λ xs. xs ++ replies_text (turns_of answered.events)) empty ∙ sym (text-paid answered.events it.last it.none) in
+      answered.outbox ∙ ap (λ xs. xs ++ replies_text (turns_of answered.events)) empty
+      ∙ sym (text-paid answered.events it.last it.none) in
       let reading : state.reading ≡ mid.state.reading = ap (λ (s : SessionState). s.reading) is in
       record {
         delivered = record {
           events = answered.events ++ it.last;
           turned = turned_append answered.turned (turned_paid {ghosts = ghosts} [] it is);
-          output = subst (λ xs. Writes outlet.takes (old.writer, old.written) xs (writer, written)) text wrote;
+          output = subst (λ xs. Writes outlet.takes (old.writer, old.written) xs (writer, written))
+              text wrote;
           outbox = ap (λ (s : SessionState). s.outbox) is;
           owes = ap (λ (s : SessionState). s.owes) is;
           progress_is =
-              subst (λ xs. ProgressIs progress xs state.reading) (sym (items-paid answered.events it.last it.none))
-              (subst (λ to. ProgressIs progress (items_of (turns_of answered.events)) to) (sym reading) answered.progress_is);
+              subst (λ xs. ProgressIs progress xs state.reading)
+              (sym (items-paid answered.events it.last it.none))
+              (subst (λ to. ProgressIs progress (items_of (turns_of answered.events)) to)
+              (sym reading) answered.progress_is);
         };
         idle = omega (arith, answered.idles, it.idles, idles-append answered.events it.last);
         calm = calm;
       }
 
   -- all items were answered, the owed round was run, and the front of the replies was written
-  pub ok_delivered : {progress : Progress} {short : Bool} {old new : DeliveryState O (Parts H L T C)} {mid : Snapshot (Parts H L T C)}
+  pub ok_delivered : {progress : Progress} {short : Bool}
+      {old new : DeliveryState O (Parts H L T C)} {mid : Snapshot (Parts H L T C)}
       → (front unwritten : List ℕ)
       → HasAnswered (effects_of ghosts) progress old.session mid
       → IsRun ghosts.backend mid short new.session.parts
@@ -111,22 +132,28 @@ module _ {O H L T C : Type 0} {outlet : OutletGhosts O} {ghosts : PartsGhosts H 
         reached = new.session.parts;
         idle = omega (arith, answered.idles, it.idles, idles-append answered.events it.last);
         ends = at_once (short-last answered.events it.last answered.turned.memory it.one) refl;
-        gives = subst (λ xs. Gives old.session.state.reading xs mid.state.reading) (sym items) answered.turned.gives;
+        gives = subst (λ xs. Gives old.session.state.reading xs mid.state.reading)
+            (sym items) answered.turned.gives;
         gains = gains_append answered.turned.gains it.gains;
         counts = counts_append answered.turned.counts it.counts;
-        order = order-append old.session.state.owes mid.state.owes false answered.events it.last answered.turned.order it.order;
-        in_session = subst InSession (sym items) (in_session progress (items_of (turns_of answered.events)) mid.state.reading answered.progress_is);
+        order = order-append old.session.state.owes mid.state.owes false answered.events it.last
+            answered.turned.order it.order;
+        in_session = subst InSession (sym items) (in_session progress
+            (items_of (turns_of answered.events)) mid.state.reading answered.progress_is);
         front = front;
         unwritten = unwritten;
         text =
             text-paid answered.events it.last it.none
-            ∙ sym (answered.outbox ∙ ap (λ xs. xs ++ replies_text (turns_of answered.events)) empty) ∙ split;
+            ∙ sym (answered.outbox ∙ ap (λ xs. xs ++ replies_text (turns_of answered.events)) empty)
+            ∙ split;
         output = wrote;
-        batch = one_batch answered.events it.last _ front empty answered.begin answered.at_once it.none it.one;
+        batch = one_batch answered.events it.last _ front empty answered.begin answered.at_once
+            it.none it.one;
       }
 
   -- some items were answered, memory ran out, and the front of the replies was written
-  pub err_delivered : {short : Bool} {old new : DeliveryState O (Parts H L T C)} {mid : Snapshot (Parts H L T C)}
+  pub err_delivered : {short : Bool} {old new : DeliveryState O (Parts H L T C)}
+      {mid : Snapshot (Parts H L T C)}
       → (front unwritten : List ℕ)
       → AnsweredPart (effects_of ghosts) old.session mid
       → IsRun ghosts.backend mid short new.session.parts
@@ -134,10 +161,12 @@ module _ {O H L T C : Type 0} {outlet : OutletGhosts O} {ghosts : PartsGhosts H 
       → Writes outlet.takes (old.writer, old.written) front (new.writer, new.written)
       → DeliveredPart (delivering outlet (effects_of ghosts)) 0 old new
   err_delivered front unwritten part run empty split wrote =
-      part_delivered front unwritten part (ends_paid {ghosts = ghosts} (work-short part.events part.at_once) part.behind run) empty split wrote
+      part_delivered front unwritten part (ends_paid {ghosts = ghosts}
+      (work-short part.events part.at_once) part.behind run) empty split wrote
 
   -- all items were answered and all replies written, and memory ran out in the round
-  pub short_in_round : {progress : Progress} {short : Bool} {old new : DeliveryState O (Parts H L T C)} {mid : Snapshot (Parts H L T C)}
+  pub short_in_round : {progress : Progress} {short : Bool}
+      {old new : DeliveryState O (Parts H L T C)} {mid : Snapshot (Parts H L T C)}
       → HasAnswered (effects_of ghosts) progress old.session mid
       → IsRun ghosts.backend mid short new.session.parts → old.session.state.outbox ≡ []
       → Writes outlet.takes (old.writer, old.written) mid.state.outbox (new.writer, new.written)
@@ -145,13 +174,15 @@ module _ {O H L T C : Type 0} {outlet : OutletGhosts O} {ghosts : PartsGhosts H 
       → ShortOfMemory (delivering outlet (effects_of ghosts)) old new
   unfolding ok_delivered
   short_in_round {mid = mid} answered run empty wrote calm = record {
-    part = ok_delivered mid.state.outbox [] answered run empty (sym (append-nil mid.state.outbox)) wrote;
+    part = ok_delivered mid.state.outbox [] answered run empty
+        (sym (append-nil mid.state.outbox)) wrote;
     whole = refl;
     calm = calm;
   }
 
   -- some items were answered and all replies written, and memory ran out
-  pub short_in_items : {short : Bool} {old new : DeliveryState O (Parts H L T C)} {mid : Snapshot (Parts H L T C)}
+  pub short_in_items : {short : Bool} {old new : DeliveryState O (Parts H L T C)}
+      {mid : Snapshot (Parts H L T C)}
       → AnsweredPart (effects_of ghosts) old.session mid
       → IsRun ghosts.backend mid short new.session.parts → old.session.state.outbox ≡ []
       → Writes outlet.takes (old.writer, old.written) mid.state.outbox (new.writer, new.written)
@@ -159,13 +190,15 @@ module _ {O H L T C : Type 0} {outlet : OutletGhosts O} {ghosts : PartsGhosts H 
       → ShortOfMemory (delivering outlet (effects_of ghosts)) old new
   unfolding err_delivered part_delivered
   short_in_items {mid = mid} part run empty wrote calm = record {
-    part = err_delivered mid.state.outbox [] part run empty (sym (append-nil mid.state.outbox)) wrote;
+    part =
+        err_delivered mid.state.outbox [] part run empty (sym (append-nil mid.state.outbox)) wrote;
     whole = refl;
     calm = calm;
   }
 
   -- the same, whichever it was, where the writer failed at the others
-  pub writer_failed : {short : Bool} {old new : DeliveryState O (Parts H L T C)} (mid : Snapshot (Parts H L T C))
+  pub writer_failed : {short : Bool} {old new : DeliveryState O (Parts H L T C)}
+      (mid : Snapshot (Parts H L T C))
       → (front unwritten : List ℕ) (answered : Result Progress NoMemory)
       → AnsweringEnds (effects_of ghosts) old.session answered mid
       → IsRun ghosts.backend mid short new.session.parts

@@ -24,7 +24,8 @@ use Rattle.tko_session.specs.declared.step.Step.{Step}
 use Rattle.tko_session.specs.declared.step.Step.TheVariants as step
 
 -- the next item is this request, and its reply is not complete
-pub record IsFor (old : SessionState) (it : Request) (owes : Bool) (now : SessionState) : Type 0 where
+pub record IsFor (old : SessionState) (it : Request) (owes : Bool)
+    (now : SessionState) : Type 0 where
   pub emits : Emits old.reading (item.Request it) now.reading
   pub begin : now.begin ≡ length old.outbox
   pub requests : now.requests ≡ old.requests
@@ -37,7 +38,8 @@ pub record IsTakenAt (old now : SessionState) : Type 0 where
   pub state : now ≡ with_request_read (whole_of it) (record old { reading = now.reading })
 
 -- it was recorded
-pub record IsAskedAt (old : SessionState) (owes : Bool) (done : List Interaction) (now : SessionState) : Type 0 where
+pub record IsAskedAt (old : SessionState) (owes : Bool) (done : List Interaction)
+    (now : SessionState) : Type 0 where
   pub it : Request
   pub are : done ≡ Recorded (Asked it) ∷ []
   pub under : IsFor old it owes now
@@ -45,7 +47,8 @@ pub record IsAskedAt (old : SessionState) (owes : Bool) (done : List Interaction
   pub waits : now.outbox ≡ old.outbox
 
 -- a send is out for it
-pub record IsOutAt (config : Configuration) (old : SessionState) (owes : Bool) (done : List Interaction) (clear : ℕ) (sent : SentKey) (now : SessionState) : Type 0 where
+pub record IsOutAt (config : Configuration) (old : SessionState) (owes : Bool)
+    (done : List Interaction) (clear : ℕ) (sent : SentKey) (now : SessionState) : Type 0 where
   pub it : Request
   pub was : List Interaction
   pub are : done ≡ Recorded (Asked it) ∷ was
@@ -55,7 +58,8 @@ pub record IsOutAt (config : Configuration) (old : SessionState) (owes : Bool) (
   pub stands : IsSending config it old.outbox clear sent now.targets was now.outbox
 
 -- the attempts at a key of it ended, and the trail is to be recorded
-pub record IsTriedAt (config : Configuration) (old : SessionState) (owes : Bool) (done : List Interaction) (trail : List Attempt) (now : SessionState) : Type 0 where
+pub record IsTriedAt (config : Configuration) (old : SessionState) (owes : Bool)
+    (done : List Interaction) (trail : List Attempt) (now : SessionState) : Type 0 where
   pub it : Request
   pub was : List Interaction
   pub are : done ≡ Recorded (Asked it) ∷ was
@@ -66,7 +70,8 @@ pub record IsTriedAt (config : Configuration) (old : SessionState) (owes : Bool)
   pub stands : IsTried config it old.outbox trail one was now.outbox
 
 -- the trail was recorded
-pub record IsPastAt (config : Configuration) (old : SessionState) (owes : Bool) (done : List Interaction) (now : SessionState) : Type 0 where
+pub record IsPastAt (config : Configuration) (old : SessionState) (owes : Bool)
+    (done : List Interaction) (now : SessionState) : Type 0 where
   pub it : Request
   pub was : List Interaction
   pub are : done ≡ Recorded (Asked it) ∷ was
@@ -77,7 +82,8 @@ pub record IsPastAt (config : Configuration) (old : SessionState) (owes : Bool) 
   pub stands : IsPast config it old.outbox one was now.outbox
 
 -- it was answered
-pub record IsRepliedAt (config : Configuration) (old : SessionState) (owes : Bool) (done : List Interaction) (at : Progress) (now : SessionState) : Type 0 where
+pub record IsRepliedAt (config : Configuration) (old : SessionState) (owes : Bool)
+    (done : List Interaction) (at : Progress) (now : SessionState) : Type 0 where
   pub it : Request
   pub was : List Interaction
   pub are : done ≡ Recorded (Asked it) ∷ was
@@ -89,18 +95,25 @@ pub record IsRepliedAt (config : Configuration) (old : SessionState) (owes : Boo
   pub between : now.work ≡ Between
 
 -- no item is decided; or the next one was answered
-pub data IsOverAt (config : Configuration) (old : SessionState) (owes : Bool) (done : List Interaction) (at : Progress) (now : SessionState) : Type 0 where
-  undecided : NeedsMore old.reading → done ≡ [] → at ≡ progress.NeedsInput → now ≡ old → IsOverAt config old owes done at now
-  refused : (fault : TextFault) → Emits old.reading (item.Fault fault) now.reading → done ≡ [] → at ≡ progress_after fault
-      → now ≡ record old { reading = now.reading; outbox = old.outbox ++ fault_text fault } → IsOverAt config old owes done at now
+pub data IsOverAt (config : Configuration) (old : SessionState) (owes : Bool)
+    (done : List Interaction) (at : Progress) (now : SessionState) : Type 0 where
+  undecided : NeedsMore old.reading → done ≡ [] → at ≡ progress.NeedsInput → now ≡ old
+      → IsOverAt config old owes done at now
+  refused : (fault : TextFault) → Emits old.reading (item.Fault fault) now.reading → done ≡ []
+      → at ≡ progress_after fault
+      → now ≡ record old { reading = now.reading; outbox = old.outbox ++ fault_text fault }
+      → IsOverAt config old owes done at now
   replied : IsRepliedAt config old owes done at now → IsOverAt config old owes done at now
 
 -- how far the next item came, where the session said this
-abbrev pub IsItemAt : Configuration → SessionState → Bool → List Interaction → Step → SessionState → Type 0
+abbrev pub IsItemAt : Configuration → SessionState → Bool → List Interaction → Step → SessionState
+    → Type 0
 IsItemAt config old owes done (step.At at) now = IsOverAt config old owes done at now
 IsItemAt config old owes done step.Began now = (done ≡ []) × IsTakenAt old now
-IsItemAt config old owes done (step.Asks clear) now = (sent : SentKey) × IsOutAt config old owes done clear sent now
+IsItemAt config old owes done (step.Asks clear) now =
+    (sent : SentKey) × IsOutAt config old owes done clear sent now
 IsItemAt config old owes done (step.Tried trail) now = IsTriedAt config old owes done trail now
 
-pub record IsItem (config : Configuration) (old : SessionState) (owes : Bool) (done : List Interaction) (said : Step) (now : SessionState) : Type 0 where
+pub record IsItem (config : Configuration) (old : SessionState) (owes : Bool)
+    (done : List Interaction) (said : Step) (now : SessionState) : Type 0 where
   pub on : IsItemAt config old owes done said now

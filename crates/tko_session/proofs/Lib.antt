@@ -1,5 +1,6 @@
 pub mod ActLemmas
 pub mod AnsweredLemmas
+mod BegunLemmas
 mod CallLemmas
 pub mod ClientItemLemmas
 pub mod ClientLemmas
@@ -7,6 +8,7 @@ mod DeliverLemmas
 mod DeliveryEndLemmas
 mod DrivenLemmas
 mod DroppedLemmas
+mod EarlierLemmas
 pub mod EventLemmas
 pub mod EventTurnsLemmas
 mod FollowingLemmas
@@ -15,6 +17,7 @@ pub mod ItemAnsweredLemmas
 pub mod ItemCutLemmas
 pub mod ItemLemmas
 pub mod ItemStateLemmas
+pub mod KeyCutLemmas
 pub mod LifeLemmas
 pub mod ManyLemmas
 pub mod OutgoingLemmas
@@ -27,4 +30,5 @@ mod SoFarLemmas
 mod StoppedLemmas
 mod TextFacts
 pub mod TurnLemmas
+pub mod TurnedLemmas
 mod WroteLemmas

@@ -1,23 +1,24 @@
 -- One client's life: its turns, and what is under way.
-use Rattle.std.proofs.Common.{◌≡◌, ℕ, ◌+◌, List, [], ◌∷◌, ◌++◌, Option, Some, None, length, refl, sym, ap, subst, ◌∙◌, append_assoc, append-nil, arith, inl, inr, cond}
+use Rattle.std.proofs.Common.{◌≡◌, ℕ, ◌+◌, List, [], ◌∷◌, ◌++◌, Option, Some, None, refl, sym, ap}
+use Rattle.std.proofs.Common.{subst, ◌∙◌, append_assoc, append-nil, inl, inr, cond}
 use Rattle.std.proofs.lemmas.Grind.{flat_map-append}
 use Rattle.std.proofs.lemmas.List.{map-append}
 use Rattle.std.proofs.lemmas.List.Sums.{sum_by-append}
-use Rattle.tko_text.specs.declared.item.Item.{Item}
 use Rattle.tko_text.specs.declared.item.Item.TheVariants as item
-use Rattle.tko_text.specs.Reading.{Emits, EmitsEach, Gives, Reading, fed, reading_start}
+use Rattle.tko_text.specs.Reading.{Emits, Gives, Reading, fed, reading_start}
 use Rattle.tko_text.proofs.GivesLemmas.{Gives-none, Gives-push}
 use Rattle.tko_pools.specs.Configs.{Configuration}
 use Rattle.tko_io.specs.Io.{capped}
-use Rattle.tko_reply.specs.Interactions.{Interaction, Recorded}
+use Rattle.tko_reply.specs.Interactions.{Interaction}
 use Rattle.tko_reply.specs.Standing.{SentKey}
-use Rattle.tko_reply.specs.TrailEvents.{Asked}
 use Rattle.tko_reply.specs.declared.asking.OneKey.{OneKey}
 use Rattle.tko_keys.specs.KeysState.{KeysState}
 use Rattle.tko_keys.specs.declared.plan.KeyPlan.{KeyPlan}
 use Rattle.tko_session.specs.Acts.{phase_after}
-use Rattle.tko_session.specs.Clients.{AreTurns, HasPending, IsClientIn, IsClientOpen, Life, done_under, items_under, life, lived, no_life, waiting_in}
-use Rattle.tko_session.specs.SessionState.{ContinuesAfterAll, ProgressIs, SessionState, fresh_session, items_of, replies_text, requests_in}
+use Rattle.tko_session.specs.Clients.{AreTurns, HasPending, IsClientIn, IsClientOpen, Life}
+use Rattle.tko_session.specs.Clients.{done_under, items_under, no_life, waiting_in}
+use Rattle.tko_session.specs.SessionState.{ProgressIs, SessionState, fresh_session, items_of}
+use Rattle.tko_session.specs.SessionState.{replies_text, requests_in}
 use Rattle.tko_session.specs.SoFar.{IsPendingAt, PendingRequest}
 use Rattle.tko_session.specs.Turns.{IsTurnWithin, SessionTurn, is_request}
 use Rattle.tko_session.specs.Working.{Between, Work}
@@ -26,74 +27,14 @@ use Rattle.tko_session.specs.declared.step.Progress.{Progress}
 use Rattle.tko_session.specs.declared.step.Progress.TheVariants as progress
 use Rattle.tko_session.specs.declared.step.Step.TheVariants as step
 use Rattle.tko_session.proofs.TurnLemmas.{goes_on-none, progress-append}
-
--- what a client's turns gave so far: these replies wait, this is left to be read, and after them this
--- was done
-pub record HasTurned (plan : KeyPlan) (config : Configuration) (it : Life) (front : List ℕ) (left : Reading) (requests : ℕ) (last : List Interaction) : Type 0 where
-  pub turns : List SessionTurn
-  pub turned : List Interaction
-  pub each : AreTurns plan config turns turned
-  pub goes_on : ContinuesAfterAll (items_of turns)
-  pub gives : Gives (fed reading_start it.bytes) (items_of turns) left
-  pub text : it.sent ++ front ≡ replies_text turns
-  pub are : it.done ≡ turned ++ last
-  pub counted : capped requests ≡ capped (requests_in (items_of turns))
-
--- this request is under way
-pub record IsOn (plan : KeyPlan) (config : Configuration) (it : Life) (state : SessionState) (under : PendingRequest) : Type 0 where
-  pub left : Reading
-  pub base : HasTurned plan config it under.front left state.requests (Recorded (Asked under.request) ∷ under.done)
-  pub emits : Emits left (item.Request under.request) state.reading
-  pub begin : state.begin ≡ length under.front
-
-pub record IsOnWith (plan : KeyPlan) (keys : Option KeysState) (config : Configuration) (it : Life) (state : SessionState) (at : Work) : Type 0 where
-  pub under : PendingRequest
-  pub on : IsOn plan config it state under
-  pub far : IsPendingAt plan keys config under at state.targets state.outbox
-
--- a life, and what was done since
-abbrev pub did : Life → List Interaction → Life
-did it more = life it.bytes it.sent (it.done ++ more)
-
-pub lived_did : (it : Life) (more : List Interaction) → lived it (life [] [] more) ≡ did it more
-lived_did it more =
-    ap (λ xs. life xs (it.sent ++ []) (it.done ++ more)) (append-nil it.bytes) ∙ ap (λ xs. life it.bytes xs (it.done ++ more)) (append-nil it.sent)
-
--- the last of some items
-each_split : (from : Reading) (items : List Item) (last : Item) (to : Reading) → EmitsEach from (items ++ last ∷ []) to
-    → (mid : Reading) × EmitsEach from items mid × Emits mid last to
-each_split from [] last to (mid, emits, same) = (from, refl, subst (λ r. Emits from last r) (sym same) emits)
-each_split from (one ∷ items) last to (next, emits, rest) =
-    let later = each_split next items last to rest in
-    (later.0, (next, emits, later.1), later.2)
-
--- one more turn at the end
-turns_push : (plan : KeyPlan) (config : Configuration) (turns : List SessionTurn) (last : SessionTurn) (was more : List Interaction)
-    → AreTurns plan config turns was → IsTurnWithin plan config last more → AreTurns plan config (turns ++ last ∷ []) (was ++ more)
-turns_push plan config [] last was more none is = (more, [], is, refl, ap (λ ds. ds ++ more) none ∙ sym (append-nil more))
-turns_push plan config (one ∷ turns) last was more (first, rest, turn, later, are) is =
-    (first, rest ++ more, turn, turns_push plan config turns last rest more later is, ap (λ ds. ds ++ more) are ∙ append_assoc first rest more)
-
-counted_more : (a b c n : ℕ) → capped b ≡ capped a → capped c ≡ capped (b + n) → capped c ≡ capped (a + n)
-counted_more a b c n first second = omega arith
-
-module _ {plan : KeyPlan} {config : Configuration} where
-  pub more_turned : {it : Life} {front : List ℕ} {left : Reading} {requests : ℕ} {last : List Interaction} (more : List Interaction)
-      → HasTurned plan config it front left requests last → HasTurned plan config (did it more) front left requests (last ++ more)
-  more_turned {last = last} more base = record {
-    turns = base.turns;
-    turned = base.turned;
-    each = base.each;
-    goes_on = base.goes_on;
-    gives = base.gives;
-    text = base.text;
-    are = ap (λ ds. ds ++ more) base.are ∙ append_assoc base.turned last more;
-    counted = base.counted;
-  }
+use Rattle.tko_session.proofs.TurnedLemmas.{HasTurned, IsOn, IsOnWith, counted_more, each_split}
+use Rattle.tko_session.proofs.TurnedLemmas.{turns_push}
 
 module _ {plan : KeyPlan} {keys : Option KeysState} {config : Configuration} where
   -- no request is under way
-  pub idle_open : {it : Life} {state : SessionState} → HasTurned plan config it state.outbox state.reading state.requests [] → state.work ≡ Between → IsClientOpen plan keys config it state
+  pub idle_open : {it : Life} {state : SessionState}
+      → HasTurned plan config it state.outbox state.reading state.requests [] → state.work ≡ Between
+      → IsClientOpen plan keys config it state
   idle_open {it} {state} base at = record {
     turns = base.turns;
     turned = base.turned;
@@ -101,13 +42,15 @@ module _ {plan : KeyPlan} {keys : Option KeysState} {config : Configuration} whe
     each = base.each;
     at = at;
     goes_on = base.goes_on;
-    gives = subst (λ items. Gives (fed reading_start it.bytes) items state.reading) (sym (append-nil (items_of base.turns))) base.gives;
+    gives = subst (λ items. Gives (fed reading_start it.bytes) items state.reading)
+        (sym (append-nil (items_of base.turns))) base.gives;
     text = base.text;
     are = base.are;
     requests = base.counted;
   }
 
-  idle_by : {it : Life} {state : SessionState} (s : IsClientOpen plan keys config it state) (under : Option PendingRequest) → s.under ≡ under → state.work ≡ Between
+  idle_by : {it : Life} {state : SessionState} (s : IsClientOpen plan keys config it state)
+      (under : Option PendingRequest) → s.under ≡ under → state.work ≡ Between
       → HasTurned plan config it state.outbox state.reading state.requests []
   idle_by {it} {state} s None e at = record {
     turns = s.turns;
@@ -115,21 +58,27 @@ module _ {plan : KeyPlan} {keys : Option KeysState} {config : Configuration} whe
     each = s.each;
     goes_on = s.goes_on;
     gives =
-        subst (λ items. Gives (fed reading_start it.bytes) items state.reading) (append-nil (items_of s.turns))
-        (subst (λ u. Gives (fed reading_start it.bytes) (items_of s.turns ++ items_under u) state.reading) e s.gives);
+        subst (λ items. Gives (fed reading_start it.bytes) items state.reading)
+        (append-nil (items_of s.turns))
+        (subst (λ u. Gives (fed reading_start it.bytes)
+        (items_of s.turns ++ items_under u) state.reading) e s.gives);
     text = subst (λ u. it.sent ++ waiting_in u state.outbox ≡ replies_text s.turns) e s.text;
     are = subst (λ u. it.done ≡ s.turned ++ done_under u) e s.are;
     counted = s.requests;
   }
   idle_by {it} {state} s (Some p) e at =
-      let under : HasPending plan keys config (Some p) state = subst (λ u. HasPending plan keys config u state) e s.at in
+      let under : HasPending plan keys config (Some p) state =
+      subst (λ u. HasPending plan keys config u state) e s.at in
       absurd (subst (λ w. IsPendingAt plan keys config p w state.targets state.outbox) at under.1)
 
-  pub open_idle : {it : Life} {state : SessionState} → IsClientOpen plan keys config it state → state.work ≡ Between → HasTurned plan config it state.outbox state.reading state.requests []
+  pub open_idle : {it : Life} {state : SessionState} → IsClientOpen plan keys config it state
+      → state.work ≡ Between → HasTurned plan config it state.outbox state.reading state.requests []
   open_idle s at = idle_by s s.under refl at
 
   -- this request is under way
-  pub on_open : {it : Life} {state : SessionState} (under : PendingRequest) → IsOn plan config it state under → IsPendingAt plan keys config under state.work state.targets state.outbox
+  pub on_open : {it : Life} {state : SessionState} (under : PendingRequest)
+      → IsOn plan config it state under
+      → IsPendingAt plan keys config under state.work state.targets state.outbox
       → IsClientOpen plan keys config it state
   on_open {it} {state} under on far = record {
     turns = on.base.turns;
@@ -138,21 +87,26 @@ module _ {plan : KeyPlan} {keys : Option KeysState} {config : Configuration} whe
     each = on.base.each;
     at = (on.begin, far);
     goes_on = on.base.goes_on;
-    gives = Gives-push (fed reading_start it.bytes) (items_of on.base.turns) on.left (item.Request under.request) state.reading on.base.gives on.emits;
+    gives = Gives-push (fed reading_start it.bytes) (items_of on.base.turns) on.left
+        (item.Request under.request) state.reading on.base.gives on.emits;
     text = on.base.text;
     are = on.base.are;
     requests = on.base.counted;
   }
 
-  on_by : {it : Life} {state : SessionState} (s : IsClientOpen plan keys config it state) (under : Option PendingRequest) → s.under ≡ under
+  on_by : {it : Life} {state : SessionState} (s : IsClientOpen plan keys config it state)
+      (under : Option PendingRequest) → s.under ≡ under
       → (at : Work) → state.work ≡ at → (at ≡ Between → ⊥) → IsOnWith plan keys config it state at
   on_by {it} {state} s None e at is other =
       let idle : state.work ≡ Between = subst (λ u. HasPending plan keys config u state) e s.at in
       absurd (other (sym is ∙ idle))
   on_by {it} {state} s (Some p) e at is other =
-      let under : HasPending plan keys config (Some p) state = subst (λ u. HasPending plan keys config u state) e s.at in
-      let gives = subst (λ u. Gives (fed reading_start it.bytes) (items_of s.turns ++ items_under u) state.reading) e s.gives in
-      let split = each_split (fed reading_start it.bytes) (items_of s.turns) (item.Request p.request) state.reading gives.each in
+      let under : HasPending plan keys config (Some p) state =
+      subst (λ u. HasPending plan keys config u state) e s.at in
+      let gives = subst (λ u. Gives (fed reading_start it.bytes)
+      (items_of s.turns ++ items_under u) state.reading) e s.gives in
+      let split = each_split (fed reading_start it.bytes) (items_of s.turns)
+      (item.Request p.request) state.reading gives.each in
       record {
         under = p;
         on = record {
@@ -163,7 +117,8 @@ module _ {plan : KeyPlan} {keys : Option KeysState} {config : Configuration} whe
             each = s.each;
             goes_on = s.goes_on;
             gives = record { each = split.1 };
-            text = subst (λ u. it.sent ++ waiting_in u state.outbox ≡ replies_text s.turns) e s.text;
+            text =
+                subst (λ u. it.sent ++ waiting_in u state.outbox ≡ replies_text s.turns) e s.text;
             are = subst (λ u. it.done ≡ s.turned ++ done_under u) e s.are;
             counted = s.requests;
           };
@@ -173,43 +128,98 @@ module _ {plan : KeyPlan} {keys : Option KeysState} {config : Configuration} whe
         far = subst (λ w. IsPendingAt plan keys config p w state.targets state.outbox) is under.1;
       }
 
-  pub open_on : {it : Life} {state : SessionState} (at : Work) → IsClientOpen plan keys config it state → state.work ≡ at → (at ≡ Between → ⊥) → IsOnWith plan keys config it state at
+  pub open_on : {it : Life} {state : SessionState} (at : Work)
+      → IsClientOpen plan keys config it state → state.work ≡ at → (at ≡ Between → ⊥)
+      → IsOnWith plan keys config it state at
   open_on at s is other = on_by s s.under refl at is other
 
 -- these turns were all, and the last one ends the session or does not
-ends_so : (plan : KeyPlan) (keys : Option KeysState) (config : Configuration) (it : Life) (state : SessionState) (at : Progress) (turns : List SessionTurn) → ProgressIs at (items_of turns) state.reading
-    → AreTurns plan config turns it.done → state.work ≡ Between → Gives (fed reading_start it.bytes) (items_of turns) state.reading
-    → it.sent ++ state.outbox ≡ replies_text turns → capped state.requests ≡ capped (requests_in (items_of turns))
+ends_so : (plan : KeyPlan) (keys : Option KeysState) (config : Configuration)
+    (it : Life) (state : SessionState) (at : Progress) (turns : List SessionTurn)
+    → ProgressIs at (items_of turns) state.reading
+    → AreTurns plan config turns it.done → state.work ≡ Between
+    → Gives (fed reading_start it.bytes) (items_of turns) state.reading
+    → it.sent ++ state.outbox ≡ replies_text turns
+    → capped state.requests ≡ capped (requests_in (items_of turns))
     → IsClientIn (phase_after (step.At at)) plan keys config it state
 ends_so plan keys config it state progress.More turns goes each between gives text counted =
-    idle_open (record { turns = turns; turned = it.done; each = each; goes_on = goes; gives = gives; text = text; are = sym (append-nil it.done); counted = counted }) between
-ends_so plan keys config it state progress.NeedsInput turns (goes, none) each between gives text counted =
-    idle_open (record { turns = turns; turned = it.done; each = each; goes_on = goes; gives = gives; text = text; are = sym (append-nil it.done); counted = counted }) between
-ends_so plan keys config it state progress.LineTooLong turns (ends, never) each between gives text counted =
-    record { turns = turns; each = each; at = between; ends = inl ends; gives = gives; text = text; requests = counted }
+    idle_open (record {
+      turns = turns;
+      turned = it.done;
+      each = each;
+      goes_on = goes;
+      gives = gives;
+      text = text;
+      are = sym (append-nil it.done);
+      counted = counted;
+    }) between
+ends_so plan keys config it state progress.NeedsInput turns
+    (goes, none) each between gives text counted =
+    idle_open (record {
+      turns = turns;
+      turned = it.done;
+      each = each;
+      goes_on = goes;
+      gives = gives;
+      text = text;
+      are = sym (append-nil it.done);
+      counted = counted;
+    }) between
+ends_so plan keys config it state progress.LineTooLong turns
+    (ends, never) each between gives text counted =
+    record {
+      turns = turns;
+      each = each;
+      at = between;
+      ends = inl ends;
+      gives = gives;
+      text = text;
+      requests = counted;
+    }
 ends_so plan keys config it state progress.Quit turns ends each between gives text counted =
-    record { turns = turns; each = each; at = between; ends = inr ends; gives = gives; text = text; requests = counted }
+    record {
+      turns = turns;
+      each = each;
+      at = between;
+      ends = inr ends;
+      gives = gives;
+      text = text;
+      requests = counted;
+    }
 
 module _ {plan : KeyPlan} (keys : Option KeysState) {config : Configuration} where
   -- one more item was answered
-  pub end_turn : {it : Life} {front : List ℕ} {left : Reading} {requests : ℕ} {last : List Interaction} (state : SessionState) (at : Progress) (one : SessionTurn)
-      → HasTurned plan config it front left requests last → IsTurnWithin plan config one last → Emits left one.item state.reading → ProgressIs at (one.item ∷ []) state.reading
-      → state.outbox ≡ front ++ one.text → state.work ≡ Between → capped state.requests ≡ capped (requests + requests_in (one.item ∷ []))
+  pub end_turn : {it : Life} {front : List ℕ} {left : Reading} {requests : ℕ}
+      {last : List Interaction} (state : SessionState) (at : Progress) (one : SessionTurn)
+      → HasTurned plan config it front left requests last → IsTurnWithin plan config one last
+      → Emits left one.item state.reading → ProgressIs at (one.item ∷ []) state.reading
+      → state.outbox ≡ front ++ one.text → state.work ≡ Between
+      → capped state.requests ≡ capped (requests + requests_in (one.item ∷ []))
       → IsClientIn (phase_after (step.At at)) plan keys config it state
-  end_turn {it} {front} {left} {requests} {last} state at one base is emits progress said between counted =
+  end_turn {it} {front} {left} {requests} {last} state at one base is emits progress said
+      between counted =
       let turns = base.turns ++ one ∷ [] in
-      let items : items_of turns ≡ items_of base.turns ++ one.item ∷ [] = map-append (λ turn. turn.item) base.turns (one ∷ []) in
+      let before = items_of base.turns in
+      let after = one.item ∷ [] in
+      let items : items_of turns ≡ before ++ after =
+      map-append (λ turn. turn.item) base.turns (one ∷ []) in
       let texts : replies_text turns ≡ replies_text base.turns ++ one.text =
-      flat_map-append (λ turn. turn.text) base.turns (one ∷ []) ∙ ap (λ xs. replies_text base.turns ++ xs) (append-nil one.text) in
-      let asked : requests_in (items_of turns) ≡ requests_in (items_of base.turns) + requests_in (one.item ∷ []) =
-      ap requests_in items ∙ sum_by-append (λ item. cond (is_request item) 1 0) (items_of base.turns) (one.item ∷ []) in
+      flat_map-append (λ turn. turn.text) base.turns (one ∷ [])
+      ∙ ap (λ xs. replies_text base.turns ++ xs) (append-nil one.text) in
+      let asked : requests_in (items_of turns) ≡ requests_in before + requests_in after =
+      ap requests_in items
+      ∙ sum_by-append (λ item. cond (is_request item) 1 0) before after in
       ends_so plan keys config it state at turns
-      (subst (λ xs. ProgressIs at xs state.reading) (sym items) (progress-append at (items_of base.turns) (one.item ∷ []) state.reading base.goes_on progress))
-      (subst (AreTurns plan config turns) (sym base.are) (turns_push plan config base.turns one base.turned last base.each is))
-      between
-      (subst (λ xs. Gives (fed reading_start it.bytes) xs state.reading) (sym items) (Gives-push (fed reading_start it.bytes) (items_of base.turns) left one.item state.reading base.gives emits))
-      (ap (λ xs. it.sent ++ xs) said ∙ sym (append_assoc it.sent front one.text) ∙ ap (λ xs. xs ++ one.text) base.text ∙ sym texts)
-      (counted_more (requests_in (items_of base.turns)) requests state.requests (requests_in (one.item ∷ [])) base.counted counted ∙ ap capped (sym asked))
+      (subst (λ xs. ProgressIs at xs state.reading) (sym items)
+      (progress-append at before after state.reading base.goes_on progress))
+      (subst (AreTurns plan config turns) (sym base.are)
+      (turns_push plan config base.turns one base.turned last base.each is)) between
+      (subst (λ xs. Gives (fed reading_start it.bytes) xs state.reading) (sym items)
+      (Gives-push (fed reading_start it.bytes) before left one.item state.reading base.gives emits))
+      (ap (λ xs. it.sent ++ xs) said ∙ sym (append_assoc it.sent front one.text)
+      ∙ ap (λ xs. xs ++ one.text) base.text ∙ sym texts)
+      (counted_more (requests_in before) requests state.requests (requests_in after)
+      base.counted counted ∙ ap capped (sym asked))
 
 pub between_or_read : (one : OneKey) → work.Read one ≡ Between → ⊥
 between_or_read one same = cc
@@ -224,6 +234,16 @@ pub between_or_handed : work.HandedOver ≡ Between → ⊥
 between_or_handed same = cc
 
 -- a client that has just come
-pub begins : (plan : KeyPlan) (config : Configuration) → IsClientOpen plan None config no_life fresh_session
+pub begins : (plan : KeyPlan) (config : Configuration)
+    → IsClientOpen plan None config no_life fresh_session
 begins plan config =
-    idle_open (record { turns = []; turned = []; each = refl; goes_on = goes_on-none; gives = Gives-none reading_start; text = refl; are = refl; counted = refl }) refl
+    idle_open (record {
+      turns = [];
+      turned = [];
+      each = refl;
+      goes_on = goes_on-none;
+      gives = Gives-none reading_start;
+      text = refl;
+      are = refl;
+      counted = refl;
+    }) refl

@@ -1,5 +1,7 @@
 -- The replies of a session, which are written piece by piece.
-use Rattle.std.proofs.Common.{◌≡◌, ◌≢◌, ℕ, ◌+◌, ◌<◌, ◌≤◌, List, [], ◌++◌, length, length-append, length-drop, take, drop, refl, sym, ap, ◌∙◌, subst, arith, append_assoc, append-nil}
+use Rattle.std.proofs.Common.{◌≡◌, ◌≢◌, ℕ, ◌+◌, ◌<◌, ◌≤◌, List, [], ◌++◌, length, length-append}
+use Rattle.std.proofs.Common.{length-drop, take, drop, refl, sym, ap, ◌∙◌, subst, arith}
+use Rattle.std.proofs.Common.{append_assoc, append-nil}
 use Rattle.std.proofs.lemmas.List.{drop_at, take-append-le}
 use Rattle.std.proofs.Math.Seq.{take-append-add}
 use Rattle.tko_io.specs.Io.{Writes, WritesPart}
@@ -30,8 +32,10 @@ pub record WrittenSoFar {O : Type 0} (outlet : OutletGhosts O) (old new : Writin
   pub calm : outlet.failures new.writer ≡ outlet.failures old.writer
 
 module _ {O : Type 0} (outlet : OutletGhosts O)
-    (goes_on : (x y z : O) (bytes more : List ℕ) → outlet.takes x bytes y → outlet.takes y more z → outlet.takes x (bytes ++ more) z) where
-  pub written_none : (at : Writing O) → outlet.takes at.writer [] at.writer → WrittenSoFar outlet at at
+    (goes_on : (x y z : O) (bytes more : List ℕ) → outlet.takes x bytes y → outlet.takes y more z
+    → outlet.takes x (bytes ++ more) z) where
+  pub written_none : (at : Writing O) → outlet.takes at.writer [] at.writer
+      → WrittenSoFar outlet at at
   written_none at nothing = record {
     front = [];
     whole = refl;
@@ -49,16 +53,20 @@ module _ {O : Type 0} (outlet : OutletGhosts O)
       → WrittenSoFar outlet old new
   written_more {old} {mid} {new} piece before front wrote calm is =
       let rest : new.state.outbox ≡ front.more =
-      ap (λ (s : SessionState). s.outbox) is ∙ ap (drop (length piece)) front.is ∙ drop_at piece front.more (length piece) refl in
+      ap (λ (s : SessionState). s.outbox) is ∙ ap (drop (length piece)) front.is
+      ∙ drop_at piece front.more (length piece) refl in
       record {
         front = before.front ++ piece;
         whole =
-            before.whole ∙ ap (λ xs. before.front ++ xs) (front.is ∙ ap (λ xs. piece ++ xs) (sym rest))
+            before.whole
+            ∙ ap (λ xs. before.front ++ xs) (front.is ∙ ap (λ xs. piece ++ xs) (sym rest))
             ∙ sym (append_assoc before.front piece new.state.outbox);
         wrote = writes_append goes_on before.wrote wrote;
         others =
-            is ∙ ap (λ (s : SessionState). record s { outbox = drop (length piece) mid.state.outbox }) before.others
-            ∙ ap (λ (xs : List ℕ). record old.state { outbox = xs }) (sym (ap (λ (s : SessionState). s.outbox) is));
+            is ∙ ap (λ (s : SessionState).
+            record s { outbox = drop (length piece) mid.state.outbox }) before.others
+            ∙ ap (λ (xs : List ℕ). record old.state { outbox = xs })
+            (sym (ap (λ (s : SessionState). s.outbox) is));
         calm = calm ∙ before.calm;
       }
 
@@ -68,10 +76,12 @@ module _ {O : Type 0} (outlet : OutletGhosts O)
   written_all {old} {new} before none =
       let whole : before.front ≡ old.state.outbox =
       sym (append-nil before.front) ∙ ap (λ xs. before.front ++ xs) (sym none) ∙ sym before.whole in
-      subst (λ xs. Writes outlet.takes (old.writer, old.written) xs (new.writer, new.written)) whole before.wrote
+      subst (λ xs. Writes outlet.takes (old.writer, old.written) xs (new.writer, new.written)) whole
+      before.wrote
 
   -- the writer failed within a piece
-  pub written_part : {old mid : Writing O} {writer : O} {written : ℕ} (piece : List ℕ) → WrittenSoFar outlet old mid
+  pub written_part : {old mid : Writing O} {writer : O} {written : ℕ} (piece : List ℕ)
+      → WrittenSoFar outlet old mid
       → Extends piece mid.state.outbox
       → WritesPart outlet.takes (mid.writer, mid.written) piece (writer, written)
       → WritesPart outlet.takes (old.writer, old.written) old.state.outbox (writer, written)
@@ -79,13 +89,21 @@ module _ {O : Type 0} (outlet : OutletGhosts O)
       let whole : old.state.outbox ≡ before.front ++ (piece ++ front.more) =
       before.whole ∙ ap (λ xs. before.front ++ xs) front.is in
       let least : part.count ≤ length piece = omega (arith, part.within) in
-      let taken : before.front ++ take part.count piece ≡ take (length before.front + part.count) old.state.outbox =
+      let taken : before.front ++ take part.count piece
+      ≡ take (length before.front + part.count) old.state.outbox =
       ap (λ xs. before.front ++ xs) (sym (take-append-le part.count piece front.more least))
       ∙ sym (take-append-add before.front (piece ++ front.more) part.count)
       ∙ ap (take (length before.front + part.count)) (sym whole) in
       record {
         count = length before.front + part.count;
-        within = omega (arith, part.within, ap length whole, length-append before.front (piece ++ front.more), length-append piece front.more);
-        front = subst (λ xs. Writes outlet.takes (old.writer, old.written) xs (writer, written)) taken
+        within = omega (
+          arith,
+          part.within,
+          ap length whole,
+          length-append before.front (piece ++ front.more),
+          length-append piece front.more,
+        );
+        front =
+            subst (λ xs. Writes outlet.takes (old.writer, old.written) xs (writer, written)) taken
             (writes_append goes_on before.wrote part.front);
       }

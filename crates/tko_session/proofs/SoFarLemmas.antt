@@ -1,5 +1,6 @@
 -- How far a request was answered that is under way, and how far its answer came.
-use Rattle.std.proofs.Common.{◌≡◌, ℕ, Bool, true, false, List, [], ◌∷◌, ◌++◌, length, refl, sym, ap, subst, ◌∙◌, append-nil}
+use Rattle.std.proofs.Common.{◌≡◌, ℕ, Bool, true, false, List, [], ◌∷◌, ◌++◌, length, refl, sym, ap}
+use Rattle.std.proofs.Common.{subst, ◌∙◌, append-nil}
 use Rattle.std.proofs.lemmas.List.Elements.{All-nil}
 use Rattle.tko_text.specs.declared.request.Request.{Request}
 use Rattle.tko_text.specs.declared.request.Request.TheVariants as asked
@@ -10,31 +11,36 @@ use Rattle.tko_reply.specs.Interactions.{Interaction}
 use Rattle.tko_reply.specs.Replies.{HasValues, RoutedKey, joined_values, keys_in}
 use Rattle.tko_reply.specs.Standing.{SentKey}
 use Rattle.tko_reply.specs.declared.asking.OneKey.{OneKey}
-use Rattle.tko_reply.proofs.StandsLemmas.{IsAnswered, IsAt, IsPast, IsSending, JoinsOn, values_joined}
+use Rattle.tko_reply.proofs.StandsLemmas.{IsAt, IsPast, IsSending, JoinsOn, values_joined}
 use Rattle.tko_reply.proofs.StandsLemmas as stands
-use Rattle.tko_session.specs.SoFar.{AsksForKey, HasJoined, IsKeyPast, IsOneKeyOf, IsReplied, IsSentFor, PendingRequest}
+use Rattle.tko_session.specs.SoFar.{AsksForKey, HasJoined, IsKeyPast, IsOneKeyOf, IsSentFor}
+use Rattle.tko_session.specs.SoFar.{PendingRequest}
 use Rattle.tko_session.specs.SoFar as so_far
 
 abbrev pub pending : Request → List ℕ → List Interaction → PendingRequest
 pending request front done = record { request = request; front = front; done = done }
 
-retrieval_keys : (keys : List (List ℕ)) (unique : Bool) → request_keys (retrieval keys unique) ≡ keys
+retrieval_keys : (keys : List (List ℕ)) (unique : Bool)
+    → request_keys (retrieval keys unique) ≡ keys
 retrieval_keys keys true = refl
 retrieval_keys keys false = refl
 
-nothing_before : (before : List (List ℕ)) (key : List ℕ) (left : List (List ℕ)) → [] ≡ before ++ key ∷ left → ⊥
+nothing_before : (before : List (List ℕ)) (key : List ℕ) (left : List (List ℕ))
+    → [] ≡ before ++ key ∷ left → ⊥
 nothing_before [] key left same = cc
 nothing_before (one ∷ before) key left same = cc
 
 -- no key was routed before the only one
-alone_first : (routed : List RoutedKey) (only key : List ℕ) (left : List (List ℕ)) → only ∷ [] ≡ keys_in routed ++ key ∷ left → routed ≡ []
+alone_first : (routed : List RoutedKey) (only key : List ℕ) (left : List (List ℕ))
+    → only ∷ [] ≡ keys_in routed ++ key ∷ left → routed ≡ []
 alone_first [] only key left same = refl
 alone_first (one ∷ routed) only key left same =
     let rest : [] ≡ keys_in routed ++ key ∷ left = cc in
     absurd (nothing_before (keys_in routed) key left rest)
 
 -- this key is to be asked for
-pub record IsNextOf (config : Configuration) (it : PendingRequest) (key : List ℕ) (one : OneKey) (outbox : List ℕ) : Type 0 where
+pub record IsNextOf (config : Configuration) (it : PendingRequest) (key : List ℕ) (one : OneKey)
+    (outbox : List ℕ) : Type 0 where
   pub left : List (List ℕ)
   pub asks : AsksForKey it.request (length it.front) key left one
   pub on : HasJoined config it (key ∷ left) outbox
@@ -57,14 +63,18 @@ has_key asked.Version key is = absurd (let none : ⊥ = cc in none)
 has_key asked.Quit key is = absurd (let none : ⊥ = cc in none)
 has_key asked.StatsTko key is = absurd (let none : ⊥ = cc in none)
 
-pub asks_keyed : {request : Request} {begin : ℕ} {key : List ℕ} {left : List (List ℕ)} {one : OneKey} → AsksForKey request begin key left one → IsKeyed request
+pub asks_keyed : {request : Request} {begin : ℕ} {key : List ℕ} {left : List (List ℕ)}
+    {one : OneKey} → AsksForKey request begin key left one → IsKeyed request
 asks_keyed {request} {key = key} (so_far.only keys none is) = has_key request key keys
 asks_keyed (so_far.one_of is) = subst IsKeyed (sym is.whole) (retrieval_keyed is.all is.unique)
 
 module _ {config : Configuration} where
   -- keys of a retrieval were routed
-  joins : {it : PendingRequest} {key : List ℕ} {left left' : List (List ℕ)} {one : OneKey} {outbox : List ℕ}
-      → (is : IsOneKeyOf it.request (length it.front) key left one) → HasJoined config it left' outbox → JoinsOn config (retrieval is.all is.unique) is.all left' it.front it.done outbox
+  joins : {it : PendingRequest} {key : List ℕ} {left left' : List (List ℕ)} {one : OneKey}
+      {outbox : List ℕ}
+      → (is : IsOneKeyOf it.request (length it.front) key left one)
+      → HasJoined config it left' outbox
+      → JoinsOn config (retrieval is.all is.unique) is.all left' it.front it.done outbox
   joins {it} is on = record {
     routed = on.routed;
     are = sym (retrieval_keys is.all is.unique) ∙ ap request_keys (sym is.whole) ∙ on.keys;
@@ -73,8 +83,11 @@ module _ {config : Configuration} where
     appended = on.appended;
   }
 
-  of_joins : {request : Request} {front outbox : List ℕ} {was : List Interaction} {left : List (List ℕ)} (all : List (List ℕ)) (unique : Bool)
-      → request ≡ retrieval all unique → JoinsOn config (retrieval all unique) all left front was outbox → HasJoined config (pending request front was) left outbox
+  of_joins : {request : Request} {front outbox : List ℕ} {was : List Interaction}
+      {left : List (List ℕ)} (all : List (List ℕ)) (unique : Bool)
+      → request ≡ retrieval all unique
+      → JoinsOn config (retrieval all unique) all left front was outbox
+      → HasJoined config (pending request front was) left outbox
   of_joins {was = was} all unique whole on = record {
     routed = on.routed;
     keys = ap request_keys whole ∙ retrieval_keys all unique ∙ on.are;
@@ -84,30 +97,45 @@ module _ {config : Configuration} where
   }
 
   -- a key of it is the next one
-  pub to_at : {it : PendingRequest} {key : List ℕ} {left : List (List ℕ)} {one : OneKey} {outbox : List ℕ}
-      → AsksForKey it.request (length it.front) key left one → HasJoined config it (key ∷ left) outbox → IsAt config it.request it.front key one it.done outbox
+  pub to_at : {it : PendingRequest} {key : List ℕ} {left : List (List ℕ)} {one : OneKey}
+      {outbox : List ℕ}
+      → AsksForKey it.request (length it.front) key left one
+      → HasJoined config it (key ∷ left) outbox
+      → IsAt config it.request it.front key one it.done outbox
   to_at {it} {key} {left} {outbox = outbox} (so_far.only keys none is) on =
       let first : on.routed ≡ [] = alone_first on.routed key key left (sym keys ∙ on.keys) in
-      stands.alone is keys (subst (λ routed. AreKeysRouted config it.request routed it.done) first on.each)
+      stands.alone is keys
+      (subst (λ routed. AreKeysRouted config it.request routed it.done) first on.each)
       (on.appended ∙ ap (λ routed. it.front ++ joined_values routed) first ∙ append-nil it.front)
-  to_at {left = left} (so_far.one_of is) on = stands.among is.all left is.unique is.whole is.some is.alone (joins is on)
+  to_at {left = left} (so_far.one_of is) on =
+      stands.among is.all left is.unique is.whole is.some is.alone (joins is on)
 
-  pub of_at : {request : Request} {front outbox : List ℕ} {was : List Interaction} {key : List ℕ} {one : OneKey}
-      → IsAt config request front key one was outbox → IsNextOf config (pending request front was) key one outbox
+  pub of_at : {request : Request} {front outbox : List ℕ} {was : List Interaction} {key : List ℕ}
+      {one : OneKey}
+      → IsAt config request front key one was outbox
+      → IsNextOf config (pending request front was) key one outbox
   of_at {front = front} (stands.alone is keys none same) = record {
     left = [];
     asks = so_far.only keys refl is;
-    on = record { routed = []; keys = keys; each = none; values = All-nil HasValues; appended = same ∙ sym (append-nil front) };
+    on = record {
+      routed = [];
+      keys = keys;
+      each = none;
+      values = All-nil HasValues;
+      appended = same ∙ sym (append-nil front);
+    };
   }
   of_at (stands.among all left unique whole some is on) = record {
     left = left;
-    asks = so_far.one_of (record { all = all; unique = unique; whole = whole; some = some; alone = is });
+    asks = so_far.one_of
+        (record { all = all; unique = unique; whole = whole; some = some; alone = is });
     on = of_joins all unique whole on;
   }
 
   -- a send is out for it
   pub to_sending : {it : PendingRequest} {asking : SentKey} {targets outbox : List ℕ}
-      → IsSentFor config it asking targets outbox → IsSending config it.request it.front asking.waiting.server asking targets it.done outbox
+      → IsSentFor config it asking targets outbox
+      → IsSending config it.request it.front asking.waiting.server asking targets it.done outbox
   to_sending sent = record {
     key = sent.key;
     first = sent.first;
@@ -120,8 +148,10 @@ module _ {config : Configuration} where
     are = sent.are;
   }
 
-  pub of_sending : {request : Request} {front outbox : List ℕ} {was : List Interaction} {clear : ℕ} {asking : SentKey} {targets : List ℕ}
-      → IsSending config request front clear asking targets was outbox → IsSentFor config (pending request front was) asking targets outbox
+  pub of_sending : {request : Request} {front outbox : List ℕ} {was : List Interaction} {clear : ℕ}
+      {asking : SentKey} {targets : List ℕ}
+      → IsSending config request front clear asking targets was outbox
+      → IsSentFor config (pending request front was) asking targets outbox
   of_sending sending =
       let at = of_at sending.at in
       record {
@@ -140,18 +170,40 @@ module _ {config : Configuration} where
       }
 
   -- a key of it was routed, and its trail recorded
-  pub to_past : {it : PendingRequest} {one : OneKey} {outbox : List ℕ} → IsKeyPast config it one outbox → IsPast config it.request it.front one it.done outbox
+  pub to_past : {it : PendingRequest} {one : OneKey} {outbox : List ℕ}
+      → IsKeyPast config it one outbox → IsPast config it.request it.front one it.done outbox
   to_past (so_far.complete silent is by_key done) =
-      stands.complete silent is (record { routed = done.routed; text = done.text; answers = done.answers; appended = done.appended })
-  to_past (so_far.values key left is on) = values_joined is.all left is.unique key is.whole is.some is.alone (joins is on)
+      stands.complete silent is (record {
+        routed = done.routed;
+        text = done.text;
+        answers = done.answers;
+        appended = done.appended;
+      })
+  to_past (so_far.values key left is on) =
+      values_joined is.all left is.unique key is.whole is.some is.alone (joins is on)
 
-  pub of_past : {request : Request} {front outbox : List ℕ} {was : List Interaction} {one : OneKey} → IsKeyed request
-      → IsPast config request front one was outbox → IsKeyPast config (pending request front was) one outbox
+  pub of_past : {request : Request} {front outbox : List ℕ} {was : List Interaction} {one : OneKey}
+      → IsKeyed request
+      → IsPast config request front one was outbox
+      → IsKeyPast config (pending request front was) one outbox
   of_past by_key (stands.complete silent is done) =
-      so_far.complete silent is by_key (record { routed = done.routed; text = done.text; answers = done.answers; appended = done.appended })
+      so_far.complete silent is by_key (record {
+        routed = done.routed;
+        text = done.text;
+        answers = done.answers;
+        appended = done.appended;
+      })
   of_past by_key (values_joined all left unique key whole some is on) =
-      so_far.values key left (record { all = all; unique = unique; whole = whole; some = some; alone = is }) (of_joins all unique whole on)
+      so_far.values key left (record {
+        all = all;
+        unique = unique;
+        whole = whole;
+        some = some;
+        alone = is;
+      }) (of_joins all unique whole on)
 
-  pub past_keyed : {it : PendingRequest} {one : OneKey} {outbox : List ℕ} → IsKeyPast config it one outbox → IsKeyed it.request
+  pub past_keyed : {it : PendingRequest} {one : OneKey} {outbox : List ℕ}
+      → IsKeyPast config it one outbox → IsKeyed it.request
   past_keyed (so_far.complete silent is by_key done) = by_key
-  past_keyed (so_far.values key left is on) = subst IsKeyed (sym is.whole) (retrieval_keyed is.all is.unique)
+  past_keyed (so_far.values key left is on) =
+      subst IsKeyed (sym is.whole) (retrieval_keyed is.all is.unique)

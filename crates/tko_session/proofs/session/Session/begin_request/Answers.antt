@@ -8,7 +8,8 @@ use Rattle.tko_session.specs.SessionState.{SessionState}
 use Rattle.tko_session.specs.Working.{key_work, request_read_in, work_at}
 use Rattle.tko_session.specs.declared.step.Step.TheVariants.{At}
 use Rattle.tko_session.proofs.CallLemmas.{dropped_again, going, going_then, key_begun, key_dropped, key_of_work, read_work}
-use Rattle.tko_session.proofs.ReadyLemmas.{begins_first, request_itself, request_keyed, request_lost, request_unkeyed}
+use Rattle.tko_session.proofs.ReadyLemmas.{request_itself, request_keyed, request_lost, request_unkeyed}
+use Rattle.tko_session.proofs.BegunLemmas.{begins_first}
 use Rattle.tko_session.proofs.session.Session.begin_request.Goals as goal
 
 pub first-requires-clause-whole : goal.first-requires-clause-whole

@@ -1,5 +1,5 @@
 use Rattle.tko_reply.proofs.ResultLemmas.{both_ok}
-use Rattle.tko_session.proofs.ReadyLemmas.{fault_read, request_read}
+use Rattle.tko_session.proofs.BegunLemmas.{fault_read, request_read}
 use Rattle.tko_session.proofs.session.Session.next_item.Goals as goal
 
 pub returns-in-Some-Fault-clause-ok : goal.returns-in-Some-Fault-clause-ok
