@@ -6,10 +6,12 @@ use Rattle.tko_steps.specs.Core.{abstract_of, settings_of}
 use Rattle.tko_steps.specs.Cost.{IsShort}
 use Rattle.tko_steps.specs.Invariant.{IsCore}
 use Rattle.tko_steps.specs.Kinds.{HaveKinds, NoneIsLost}
-use Rattle.tko_steps.specs.Legal.{ChangesAreOwn, ChangesAtMostOnce, IsChain, IsFullAtLimit, IsLegal, IsOwnersAnswer, IsUnderNumber}
+use Rattle.tko_steps.specs.Legal.{ChangesAreOwn, ChangesAtMostOnce, IsChain, IsFullAtLimit, IsLegal}
+use Rattle.tko_steps.specs.Legal.{IsOwnersAnswer, IsUnderNumber}
 use Rattle.tko_steps.specs.Lost.{ExpectsWhatItSaw, HasLostEachTry, LosesToOthers}
 use Rattle.tko_steps.specs.Runs.{World, calls_of}
-use Rattle.tko_steps.specs.Safe.{AreWithinLimits, CountSlots, HasDistinctNumbers, HasOneResponsible, OwnsItsMarks}
+use Rattle.tko_steps.specs.Safe.{AreWithinLimits, CountSlots, HasDistinctNumbers, HasOneResponsible}
+use Rattle.tko_steps.specs.Safe.{OwnsItsMarks}
 
 -- the calls of a run under these settings that came to this world
 pub record AreSoundCalls (s : Settings) (w : World) : Type 0 where
