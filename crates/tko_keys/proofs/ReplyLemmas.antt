@@ -8,7 +8,7 @@ use Rattle.std.proofs.lemmas.Option.{slice_get_past, none-some, same_Some}
 use Rattle.tko_text.specs.declared.request.Request.{Request}
 use Rattle.tko_pools.specs.Configs.{Configuration}
 use Rattle.tko_route.specs.Trail.{answer_of}
-use Rattle.tko_reply.specs.Replies.{end_line, HasValues, RoutedKey, joined_values, keys_in}
+use Rattle.tko_reply.specs.Replies.{HasValues, RoutedKey, joined_values, keys_in}
 use Rattle.tko_reply.specs.Replies.{routed_key, trail_reply_text, values_text_in}
 use Rattle.tko_reply.specs.Answers.{IsKeyRouted}
 use Rattle.tko_reply.specs.Asking.{Joins}

@@ -1,4 +1,4 @@
-use Rattle.std.proofs.Common.{◌≡◌, ◌≤◌, ◌++◌, ◌∙◌, ap, length, rules, subst}
+use Rattle.std.proofs.Common.{◌≡◌, ◌≤◌, ◌++◌, length, rules, subst}
 use Rattle.std.specs.Prelude.{OnOk}
 use Rattle.tko_keys.specs.KeysState.{KeysState, list_in, reply_in}
 use Rattle.tko_keys.proofs.ReplyLemmas.{finish_ends}
