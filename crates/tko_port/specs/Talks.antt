@@ -1,6 +1,8 @@
 -- A client's session as its port sees it.
-use Rattle.std.specs.Prelude.{◌≡◌, ◌≢◌, ℕ, ◌+◌, ◌-◌, ◌^◌, List, [], ◌++◌, Option, length, min}
+use Rattle.std.specs.Prelude.{◌≡◌, ◌≢◌, ℕ, ◌+◌, ◌-◌, ◌^◌, List, [], ◌++◌, Option, None, IfSome, IsSome, Result, Ok, Err, length, min}
+use Rattle.tko_text.specs.declared.request.Request.{Request}
 use Rattle.tko_mux.specs.declared.asking.Came.{Came}
+use Rattle.tko_mux.specs.Awaits.{IsAsking}
 use Rattle.tko_port.specs.declared.talking.SessionStage.{SessionStage}
 use Rattle.tko_port.specs.declared.talking.SessionStage.TheVariants.{Full, Going, NeedsInput, Over, TooLong, Waits}
 use Rattle.tko_port.specs.declared.talking.Tally.{Tally}
@@ -38,6 +40,17 @@ pub data TalkItem : Type 0 where
   Sent : (count : ℕ) → TalkItem
   Took : (server : ℕ) (came : Came) (asked : Option ℕ) → TalkItem
 
+-- what going on did to a session: it went on, and asks this server if it asks one; or its request
+-- was dropped
+abbrev pub went_as : {E : Type 0} → Result (Option ℕ) E → TalkItem
+went_as (Ok asked) = Went asked
+went_as (Err fault) = Dropped
+
+-- what feeding it these bytes did
+abbrev pub fed_as : {A E : Type 0} → List ℕ → Result A E → TalkItem
+fed_as bytes (Ok done) = Fed bytes
+fed_as bytes (Err fault) = NotFed
+
 -- where its replies are to be written before it goes on, there are some
 abbrev pub HasReplies : SessionStage → List ℕ → Type 0
 HasReplies Full output = output ≢ []
@@ -56,6 +69,20 @@ AwaitsAt Full awaited = awaited ≡ []
 AwaitsAt NeedsInput awaited = awaited ≡ []
 AwaitsAt Over awaited = awaited ≡ []
 AwaitsAt TooLong awaited = awaited ≡ []
+
+-- a session went on, and asks this server if it asks one: it awaits that besides, as its stage
+-- says, and has the request that is to be sent
+pub record HasGoneOn (asked : Option ℕ) (was : List ℕ) (talk : Talk) (awaited : List ℕ)
+    (asks_for : Option Request) : Type 0 where
+  pub asks : IsAsking asked was awaited
+  pub request : IfSome asked (λ server. IsSome asks_for)
+  pub stage : AwaitsAt talk.stage awaited
+
+-- whom it asks then; an `Err` asks nobody
+abbrev pub GoesOnAs : {E : Type 0} → Result (Option ℕ) E → List ℕ → Talk → List ℕ → Option Request
+    → Type 0
+GoesOnAs (Ok asked) was talk awaited asks_for = HasGoneOn asked was talk awaited asks_for
+GoesOnAs (Err fault) was talk awaited asks_for = IsAsking None was awaited
 
 -- how a session is between two calls: whom it awaits at its stage, and that it has replies where
 -- they are to be written first

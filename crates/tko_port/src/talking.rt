@@ -39,12 +39,12 @@ pub struct Tally {
 /// requests may be under way, also to one server: what comes from a server is of the first of those
 /// that are under way to it, in the order in which they were asked for.
 pub trait Talking<P> {
-    ghost use Rattle.std.specs.Prelude.{◌≡◌, ◌≢◌, ◌<◌, ◌≤◌, ◌++◌, ℕ, List, [], None, Option, Some, IfOk, IfSome, IsSome, OnErr, OnOk, drop, length, take};
+    ghost use Rattle.std.specs.Prelude.{◌≡◌, ◌≢◌, ◌<◌, ◌≤◌, ◌++◌, ℕ, List, [], Option, Some, IfSome, IsSome, OnErr, OnOk, drop, length, take};
     ghost use Rattle.std.specs.Bool.{OnFalse, OnTrue};
     ghost use Rattle.tko_port.specs.declared.talking.SessionStage.TheVariants.{NeedsInput};
-    ghost use Rattle.tko_port.specs.Talks.{AwaitsAt, Dropped, Ended, Fed, GainsBytes, HasReplies, IsCallable, NotFed, SendsBytes, Sent, StaysReady, Talk, TalkItem, Took, Went, tally_of, taken_more};
+    ghost use Rattle.tko_port.specs.Talks.{Ended, GainsBytes, GoesOnAs, HasReplies, IsCallable, SendsBytes, Sent, StaysReady, Talk, TalkItem, Took, fed_as, taken_more, tally_of, went_as};
     ghost use Rattle.tko_text.specs.declared.request.Request.{Request};
-    ghost use Rattle.tko_mux.specs.Awaits.{IsAsking, IsTaking, times_due};
+    ghost use Rattle.tko_mux.specs.Awaits.{IsTaking, times_due};
 
     ghost talk: { Self → Talk };
 
@@ -71,16 +71,9 @@ pub trait Talking<P> {
     /// dropped.
     fn go_on(&mut self, parts: &mut P) -> Result<Option<Clear>, NoMemory>
         requires ready { IsCallable ready (self.old, parts.old) }
-        ensures ok { IfOk result (λ asked. does (self.old, parts.old) (Went asked)
-            (self.new, parts.new)) }
-        ensures err { OnErr result (does (self.old, parts.old) Dropped (self.new, parts.new)) }
-        ensures asks { IfOk result (λ asked.
-            IsAsking asked (awaited self.old) (awaited self.new)) }
-        ensures request { IfOk result (λ asked.
-            IfSome asked (λ server. IsSome (asks_for self.new))) }
-        ensures here { OnErr result (IsAsking None (awaited self.old) (awaited self.new)) }
-        ensures stage { IfOk result (λ asked.
-            AwaitsAt (talk self.new).stage (awaited self.new)) }
+        ensures does { does (self.old, parts.old) (went_as result) (self.new, parts.new) }
+        ensures asks { GoesOnAs result (awaited self.old) (talk self.new) (awaited self.new)
+            (asks_for self.new) }
         ensures taken { (talk self.new).taken ≡ (talk self.old).taken }
         ensures replies { HasReplies (talk self.new).stage (talk self.new).output }
         ensures ready { StaysReady ready (self.old, parts.old) (self.new, parts.new) }
@@ -117,9 +110,8 @@ pub trait Talking<P> {
         requires ready { IsCallable ready (self.old, parts.old) }
         requires here { awaited self.old ≡ [] }
         requires needs { (talk self.old).stage ≡ NeedsInput }
-        ensures ok { OnOk result (does (self.old, parts.old) (Fed piece.now)
-            (self.new, parts.new)) }
-        ensures err { OnErr result (does (self.old, parts.old) NotFed (self.new, parts.new)) }
+        ensures does { does (self.old, parts.old) (fed_as piece.now result)
+            (self.new, parts.new) }
         ensures taken { (talk self.new).taken ≡ (talk self.old).taken }
         ensures here { awaited self.new ≡ [] }
         ensures fed { OnOk result (GainsBytes ready piece.now (self.old, parts.old)

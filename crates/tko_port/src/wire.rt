@@ -118,6 +118,7 @@ pub fn read_wire<P, S: Asking<P> + Drop, L: Port + Drop>(
     ensures cannot { OnFalse result
         (CannotRead (line_at mux.new server) (option_map L.port socket.new)) }
     ensures roster { mux.new.roster ≡ mux.old.roster }
+    ensures limit { mux.new.limit ≡ mux.old.limit }
     ensures linked { AreLinked S.awaited mux.new.roster.slots mux.new.lines }
 {
     if !is_connected(mux, server) {
@@ -154,6 +155,7 @@ fn receive<P, S: Asking<P> + Drop, L: Port + Drop>(
     ensures come { HasCome server now bytes.now mux.old.lines (option_map L.port socket.old)
         mux.new.lines (option_map L.port socket.new) }
     ensures roster { mux.new.roster ≡ mux.old.roster }
+    ensures limit { mux.new.limit ≡ mux.old.limit }
     ensures linked { AreLinked S.awaited mux.new.roster.slots mux.new.lines }
 {
     match mux.got(server, now, bytes) {
@@ -193,6 +195,7 @@ pub fn write_wire<P, S: Asking<P> + Drop, L: Port + Drop>(
     ensures cannot { CannotWriteTo (line_at mux.new server) (option_map L.port socket.new) }
     ensures others { OtherLines server mux.old.lines mux.new.lines }
     ensures roster { mux.new.roster ≡ mux.old.roster }
+    ensures limit { mux.new.limit ≡ mux.old.limit }
     ensures linked { AreLinked S.awaited mux.new.roster.slots mux.new.lines }
 {
     if !is_connected(mux, server) {
@@ -238,6 +241,7 @@ fn give_up<P, S: Asking<P> + Drop, L: Port + Drop>(
     ensures shut { AreGivenUp server cause mux.old.lines mux.new.lines
         (option_map L.port socket.new) }
     ensures roster { mux.new.roster ≡ mux.old.roster }
+    ensures limit { mux.new.limit ≡ mux.old.limit }
     ensures linked { AreLinked S.awaited mux.new.roster.slots mux.new.lines }
 {
     mux.shut(server, cause);

@@ -94,7 +94,8 @@ module _ {H T C : Type 0} {servers : H → ℕ} where
       (only_probing old (with_begun moment old) refl refl)
 
 -- there are as many servers as before, and then again
-pub servers_on : {L S P : Type 0} {port : L → PortState} {one two three : ProbesState × EventWorker L S P}
+pub servers_on : {L S P : Type 0} {port : L → PortState}
+    {one two three : ProbesState × EventWorker L S P}
     → KeepsServers port one two → KeepsServers port two three → KeepsServers port one three
 servers_on first second = record {
   out = second.out ∙ first.out;
@@ -113,26 +114,29 @@ module _ {H L C : Type 0} {health : HealthGhosts H} where
       (arrived : ℕ → Option Came) (mid probes : ProbesState) (it : ProbeTaking)
       → IsOneOut old.probes server → old.came server ≡ Some it.came → arrived server ≡ None
       → ((at : ℕ) → at ≢ server → arrived at ≡ old.came at) → HasProbeCome health moment old.backend server it backend
-      → mid ≡ with_out server false old.probes → IsProbeCounted it.came server mid probes → limit ≡ old.limit
-      → lines ≡ old.lines
+      → mid ≡ with_out server false old.probes → IsProbeCounted it.came server mid probes
+      → limit ≡ old.limit → lines ≡ old.lines
       → HasProbeTaken health moment old server
       (record { limit = limit; backend = backend; lines = lines; came = arrived; probes = probes })
-  took_one moment server old limit backend lines arrived mid probes it out has gone others come is_mid counted is_limit is_lines = record {
-    it = Some it;
-    takes = (
-      out,
-      record {
-        came = has;
-        left = gone;
-        same = others;
-        has_come = come;
-        counted = λ at. counted.counted at ∙ ap (λ (p : ProbesState). count_of p at + part_of (is_counted_probe it.came) server at) is_mid;
-        counts = counted.counts ∙ ap (λ (p : ProbesState). length p.counts) is_mid;
-        out = counted.out ∙ ap (λ (p : ProbesState). p.out) is_mid;
-        others = rw (is_limit, is_lines) refl;
-      },
-    );
-  }
+  took_one moment server old limit backend lines arrived mid probes it out has gone others come
+      is_mid counted is_limit is_lines = record {
+        it = Some it;
+        takes = (
+          out,
+          record {
+            came = has;
+            left = gone;
+            same = others;
+            has_come = come;
+            counted = λ at. counted.counted at
+                ∙ ap (λ (p : ProbesState). count_of p at
+                + part_of (is_counted_probe it.came) server at) is_mid;
+            counts = counted.counts ∙ ap (λ (p : ProbesState). length p.counts) is_mid;
+            out = counted.out ∙ ap (λ (p : ProbesState). p.out) is_mid;
+            others = rw (is_limit, is_lines) refl;
+          },
+        );
+      }
 
   -- memory ran out for a probe that was due
   pub next_lost : (moment due server duty : ℕ) (old : RoundState H L C) (limit : ℕ) (backend mid : Backend H L C)

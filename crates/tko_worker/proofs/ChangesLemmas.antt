@@ -16,6 +16,7 @@ pub lines_on : {L T P : Type 0} {one two three : WorkerState L T P} → OnlyLine
     → OnlyLinesChange two three → OnlyLinesChange one three
 lines_on first second = record {
   roster = second.roster ∙ first.roster;
+  limit = second.limit ∙ first.limit;
   touched = second.touched ∙ first.touched;
   spent = second.spent ∙ first.spent;
   ends = second.ends ∙ first.ends;

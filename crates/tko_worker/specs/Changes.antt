@@ -9,9 +9,11 @@ pub record KeepsClients {L T P : Type 0} (old new : WorkerState L T P) : Type 0 
   pub spent : new.spent ≡ old.spent
   pub ends : new.ends ≡ old.ends
 
--- so do the parts that they share: only the lines to the servers change
+-- so do the parts that they share, and the time limit of the connections: only the lines to the
+-- servers change
 pub record OnlyLinesChange {L T P : Type 0} (old new : WorkerState L T P) : Type 0 where
   pub roster : new.mux.roster ≡ old.mux.roster
+  pub limit : new.mux.limit ≡ old.mux.limit
   pub touched : new.touched ≡ old.touched
   pub spent : new.spent ≡ old.spent
   pub ends : new.ends ≡ old.ends

@@ -60,7 +60,6 @@ impl<P, L: Port + Drop, T: Talking<P> + Drop> Worker<L, T, P> {
             self.new.mux.lines) }
         ensures err { OnErr result (self.new ≡ self.old) }
         ensures clients { OnlyLinesChange self.old self.new }
-        ensures limit { self.new.mux.limit ≡ self.old.mux.limit }
         ensures order { IsInOrder (T.awaited, T.talk, L.port) T.ready self.new }
     {
         self.mux.probe(alloc, duty, due)

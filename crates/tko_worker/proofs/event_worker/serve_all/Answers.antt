@@ -17,5 +17,6 @@ loop-server-preserved g c = record {
       (λ guest. g.T.Talking.waits_for guest.talk) c.args.awake.now c.loop-server.server _
       c.loop-server.all c.serve_server-its.result _ _
       c.loop-server.clients c.serve_server-its.new.self (search rules) c.loop-server.invariant.acted
-      c.serve_server-its.ensures.acted c.loop-server.invariant.taken c.serve_server-its.ensures.drained;
+      c.serve_server-its.ensures.acted c.loop-server.invariant.taken
+      c.serve_server-its.ensures.drained;
 }

@@ -20,7 +20,8 @@ returns-in-Rests-clause-acted g c =
 pub returns-in-Later-clause-ends : goal.returns-in-Later-clause-ends
 returns-in-Later-clause-ends g c = record {
   rests = tt;
-  served = served_on (g.T.Talking.awaited, g.T.Talking.talk, g.L.Port.port) (λ guest. g.T.Talking.asks_for guest.talk)
+  served = served_on (g.T.Talking.awaited, g.T.Talking.talk, g.L.Port.port)
+      (λ guest. g.T.Talking.asks_for guest.talk)
       c.args.number c.args.due c.args.mux.now c.loop.mux c.serve_once.new.mux
       c.loop.invariant.asked.0 c.loop.invariant.asked.1
       c.in-Later.ensures.ends.0;
@@ -77,7 +78,8 @@ returns-in-AsksMore-serve_once-clause-acted g c =
 pub returns-in-Later-serve_once-clause-ends : goal.returns-in-Later-serve_once-clause-ends
 returns-in-Later-serve_once-clause-ends g c = record {
   rests = tt;
-  served = served_on (g.T.Talking.awaited, g.T.Talking.talk, g.L.Port.port) (λ guest. g.T.Talking.asks_for guest.talk)
+  served = served_on (g.T.Talking.awaited, g.T.Talking.talk, g.L.Port.port)
+      (λ guest. g.T.Talking.asks_for guest.talk)
       c.args.number c.args.due c.args.mux.now c.loop.mux c.serve_once-2.new.mux
       c.loop.invariant.asked.0 c.loop.invariant.asked.1
       c.in-Later-serve_once.ensures.ends.0;

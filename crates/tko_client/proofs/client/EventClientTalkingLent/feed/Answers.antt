@@ -6,8 +6,8 @@ use Rattle.tko_client.proofs.ClientLemmas.{fed_act}
 use Rattle.tko_client.proofs.LivingLemmas.{fed_ready}
 use Rattle.tko_client.proofs.client.EventClientTalkingLent.feed.Goals as goal
 
-pub returns-in-Ok-clause-ok : goal.returns-in-Ok-clause-ok
-returns-in-Ok-clause-ok g c = (
+pub returns-in-Ok-clause-does : goal.returns-in-Ok-clause-does
+returns-in-Ok-clause-does g c = (
   fed_act c.args._lent.now.parts.config c.args.self.now.course c.args.self.now.answering _
       c.args.piece.now c.requires.needs
       (ap (λ s. record c.args.self.now.answering { session = s }) c.in-Ok.ensures.ok),
@@ -18,4 +18,4 @@ pub returns-in-Ok-clause-fed : goal.returns-in-Ok-clause-fed
 returns-in-Ok-clause-fed g c = λ came went was.
     fed_ready (client_ghosts {C = g.row.C.Denot} g.H.Health g.T.Trails) c.args.piece.now
     c.args.self.now _ c.args._lent.now.parts c.args._lent.now.parts came went
-    (no_change {servers = g.H.Health.servers}) (search rules) (returns-in-Ok-clause-ok g c) was
+    (no_change {servers = g.H.Health.servers}) (search rules) (returns-in-Ok-clause-does g c) was

@@ -14,9 +14,13 @@ returns-in-Short-course-clause-ready g c = λ came went was.
     (record { answering = halt.left.ready; stands = halt.left.stands; reading = halt.left.reading })
     (search rules) refl refl was
 
-pub returns-in_default-clause-stage : goal.returns-in_default-clause-stage
-returns-in_default-clause-stage g c =
-    stage_awaits c.go_on-halt.result.course c.go_on-halt.new.it c.go_on-halt.ensures.left.stands
+pub returns-in_default-clause-asks : goal.returns-in_default-clause-asks
+returns-in_default-clause-asks g c = record {
+  asks = c.go_on-halt.ensures.asks;
+  request = c.go_on-halt.ensures.left.request;
+  stage = stage_awaits c.go_on-halt.result.course c.go_on-halt.new.it
+      c.go_on-halt.ensures.left.stands;
+}
 
 pub returns-in_default-clause-ready : goal.returns-in_default-clause-ready
 returns-in_default-clause-ready g c = λ came went was.

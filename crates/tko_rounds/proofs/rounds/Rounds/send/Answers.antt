@@ -11,5 +11,6 @@ returns-in-Err-clause-next g c =
     next_lost {health = g.H.Health} c.args.moment c.args.due c.args.server c.in-Some.duty
     (state_of c.args.self.now c.args.worker.now) c.settle.new.clients.mux.limit (parts_in c.settle.new.clients).backend
     (parts_in c.visit.new.self).backend c.settle.new.clients.mux.lines c.settle.new.self c.settle.result
-    (rw c.if-is_out.false at c.is_out.ensures) found.due (rw kept at settled.takes.has_come) (settled.counted.uncounted refl)
+    (rw c.if-is_out.false at c.is_out.ensures) found.due (rw kept at settled.takes.has_come)
+    (settled.counted.uncounted refl)
     (rw kept at settled.limit ∙ c.in-Some.ensures.limit) (rw kept at settled.lines ∙ c.in-Some.ensures.lines)

@@ -25,7 +25,8 @@ loop-server-preserved g c =
       parts = probing_on was.parts one.parts;
       clients = keeps_on was.clients one.clients;
       servers =
-          servers_on {one = (c.args.self.now, c.args.worker.now)} {two = (c.loop-server.self, c.loop-server.worker)}
+          servers_on {one = (c.args.self.now, c.args.worker.now)}
+          {two = (c.loop-server.self, c.loop-server.worker)}
           {three = (c.visit-short.new.self, c.visit-short.new.worker)} was.servers one.servers;
       order = one.order;
     }

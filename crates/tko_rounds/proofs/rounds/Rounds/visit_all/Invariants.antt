@@ -10,7 +10,8 @@ abbrev pub invariant-loop-server : goal.invariant-loop-server
 invariant-loop-server g l = record {
   visits : AreEventVisited g.H.Health l.moment l.due (state_of l.initial.self l.initial.worker) l.server l.short
       (state_of l.self l.worker);
-  parts : OnlyProbingChanges g.H.Health.servers (parts_in l.initial.worker.clients) (parts_in l.worker.clients);
+  parts : OnlyProbingChanges g.H.Health.servers (parts_in l.initial.worker.clients)
+      (parts_in l.worker.clients);
   clients : KeepsClients l.initial.worker.clients l.worker.clients;
   servers : KeepsServers g.L.Port.port (l.initial.self, l.initial.worker) (l.self, l.worker);
   order : IsInOrder (awaits, talk_of, g.L.Port.port) is_ready l.worker.clients;

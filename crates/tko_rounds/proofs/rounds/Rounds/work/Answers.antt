@@ -14,7 +14,9 @@ returns-clause-round g c =
 
 pub returns-clause-parts : goal.returns-clause-parts
 returns-clause-parts g c =
-    probing_on (probing_begun c.args.moment (parts_in c.args.worker.now.clients) (parts_in c.visit.new.self) c.visit.ensures.does)
+    probing_on
+    (probing_begun c.args.moment (parts_in c.args.worker.now.clients) (parts_in c.visit.new.self)
+    c.visit.ensures.does)
     c.visit_all.ensures.parts
 
 pub returns-clause-clients : goal.returns-clause-clients
@@ -22,5 +24,11 @@ returns-clause-clients g c = keeps_on c.visit.ensures.clients c.visit_all.ensure
 
 pub returns-clause-servers : goal.returns-clause-servers
 returns-clause-servers g c =
-    servers_on (record { out = refl; lines = ap length c.visit.ensures.lines; sockets = λ server. refl; count = refl })
+    servers_on
+    (record {
+      out = refl;
+      lines = ap length c.visit.ensures.lines;
+      sockets = λ server. refl;
+      count = refl;
+    })
     c.visit_all.ensures.servers

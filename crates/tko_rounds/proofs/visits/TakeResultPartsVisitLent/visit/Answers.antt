@@ -12,6 +12,7 @@ returns-clause-does g c = λ within.
           c.came-reply.ensures.none;
       parts =
           only_probing c.args.lent.now.parts _
-          (rw c.probed.ensures (ap (λ (b : _). record c.args.lent.now.parts { backend = b }) probing))
+          (rw c.probed.ensures
+          (ap (λ (b : _). record c.args.lent.now.parts { backend = b }) probing))
           c.came-reply.ensures.servers;
     }
