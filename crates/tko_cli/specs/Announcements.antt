@@ -12,13 +12,13 @@ pub record IsReadyWritten {O : Type 0} (takes : O → List ℕ → O → Type 0)
   pub ready : takes from ready_text to
   pub calm : failures to ≡ failures from
 
--- so it was with the output of this announcement
+-- `ready` went to the output of this announcement
 pub record HasPrinted {O : Type 0} (takes : O → List ℕ → O → Type 0) (failures : O → ℕ)
     (old new : Announcement O) : Type 0 where
   pub same_reference : new.output.ghost_name ≡ old.output.ghost_name
   pub written : IsReadyWritten takes failures old.output.now new.output.now
 
--- its output failed
+-- the output of this announcement failed
 pub record HasNotPrinted {O : Type 0} (failures : O → ℕ) (old new : Announcement O) : Type 0 where
   pub same_reference : new.output.ghost_name ≡ old.output.ghost_name
   pub failed : failures old.output.now < failures new.output.now

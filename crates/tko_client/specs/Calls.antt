@@ -40,7 +40,7 @@ module _ {H T C : Type 0} (ghosts : PartsGhosts H (List ℕ) T C) (servers : H �
     pub asks : IsAsking (server_asked_in went) (awaited_by_client old.0) (awaited_by_client new.0)
     pub left : IsLeftByCall went old new
 
-  -- this came of a request under way to a server, and that came to this
+  -- a client took what came of a request to this server, and its call ended so
   pub record IsTakenAs (unsent : Bool) (server : ℕ) (result : Result Outcome ExchangeNoMemory)
       (went : Went) (old new : AnsweringOver H T C) : Type 0 where
     pub taken : HasOutcomeTaken ghosts unsent server result (client_at Open old.0, old.1)

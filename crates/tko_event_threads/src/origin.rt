@@ -4,7 +4,7 @@ use std::marker::Brand;
 
 /// Names where a worker's health began. Each worker picks it, at a call that passes `Brand`.
 pub(crate) trait Origin<H> {
-    /// It began so.
+    /// What held of the health as the worker took its seat.
     ghost seated: { H → Type 0 };
 }
 
@@ -16,7 +16,7 @@ impl<H> Origin<H> for Brand {
 pub(crate) trait Opening {
     ghost use Rattle.tko_desk.specs.declared.book.Share.{Share};
 
-    /// Its share was so.
+    /// What held of its share then.
     ghost opened: { Share → Type 0 };
 }
 

@@ -49,12 +49,12 @@ abbrev pub write_stop : ErrorKind → Stop
 write_stop kind.Interrupted = Again
 write_stop _ = Fault
 
--- what the result of a read is to a session
+-- what a session takes the result of a read for
 abbrev pub read_result : Result ℕ Error → Result ℕ Stop
 read_result (Ok count) = Ok count
 read_result (Err error) = Err (read_stop (error_kind error))
 
--- what the result of a write is to a session
+-- what a session takes the result of a write for
 abbrev pub write_result : Result ℕ Error → Result ℕ Stop
 write_result (Ok count) = Ok count
 write_result (Err error) = Err (write_stop (error_kind error))

@@ -27,8 +27,8 @@ impl<T> Piped<T> {
     }
 }
 
-/// What a read is to a session, counted: an interrupted read is made again, and one that would
-/// block or timed out is an idle turn.
+/// Counts a read, and returns what a session makes of it: an interrupted read is made again, and
+/// one that would block or timed out is an idle turn.
 fn count_read<R: Wait>(
     rt: &R,
     counts: &mut StopCounts,

@@ -58,7 +58,7 @@ abbrev pub if_here : Bool → List Interaction → List Interaction
 if_here true items = items
 if_here false items = []
 
--- those of the key of a place
+-- of an entry, the interactions of the key at this place
 abbrev pub own_in : ℕ → PlacedInteraction → List Interaction
 own_in place (Alone at done) = if_here (at == place) (done ∷ [])
 own_in place (Shared it) =

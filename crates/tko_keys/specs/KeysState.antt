@@ -97,7 +97,7 @@ listed_by (Some waiting) kind = false
 abbrev pub has_values : KeySlot → Bool
 has_values slot = listed_by slot.waiting slot.key.share
 
--- they have ended, and it is none
+-- the attempts have ended, and the response is no list of values
 abbrev pub failed_by : Option Awaited → ReplyPart → Bool
 failed_by None kind = not (is_joined kind)
 failed_by (Some waiting) kind = false
@@ -130,7 +130,7 @@ first_due server due = find (λ it. it.server == server) due
 abbrev pub first_send : ℕ → List KeySend → Option KeySend
 first_send server sends = find (λ send. send.server == server) sends
 
--- those without a request that may stand first
+-- some requests, without the first if it is the one at the server (`true`)
 abbrev pub but_first : Bool → KeySend → List KeySend → List KeySend → List KeySend
 but_first true send sends others = sends
 but_first false send sends others = send ∷ others
@@ -203,7 +203,7 @@ abbrev pub attempts_of : Option Awaited → List Attempt
 attempts_of None = []
 attempts_of (Some waiting) = waiting.attempts
 
--- those at the key that was due last
+-- the attempts at the key that became due last
 abbrev pub attempts_at : List KeySlot → DueKey → Option (List Attempt)
 attempts_at slots it = option_map (λ slot. attempts_of slot.waiting) (slice_get slots it.place)
 

@@ -17,16 +17,16 @@ use tko_links::Outcome;
 use tko_model::Reply;
 use tko_text::{Key, Request};
 
-/// The keys of a request that were not taken on, and what came of it.
+/// What came of a request, and the places of its keys that have not gone on with it yet.
 #[derive(Drop)]
 pub(crate) struct Come {
     first: Option<usize>,
     others: IntoIter<usize>,
-    /// Each has its part of the response.
+    /// Whether the request was for several keys, each of which takes its part of the response.
     shared: bool,
-    /// None where memory ran out.
+    /// What came of the request; `None` where memory ran out.
     outcome: Option<Outcome>,
-    /// That of the call that recorded it.
+    /// What health replied to the call that recorded the outcome.
     reply: Option<Reply>,
 }
 
@@ -46,7 +46,7 @@ impl Model for Come {
 }
 
 impl Come {
-    /// Nothing.
+    /// Nothing came of any request.
     pub(crate) fn none(alloc: Global) -> Come
         ensures { result ≡ nothing_came }
     {

@@ -40,23 +40,23 @@ pub struct KeysAtOnce {
     slots: Vec<Slot>,
     /// Where the targets of a key are found.
     found: Vec<usize>,
-    /// Those that are due at a server, in the order in which they came there.
+    /// The keys that are due at a server, first those that became due first.
     due: VecDeque<Due>,
     /// The requests that are under way, in the order in which they were sent.
     sends: VecDeque<UnderWay>,
-    /// What came of one, for those of its keys that were not taken on.
+    /// What came of one of these, and its keys that have not gone on with it.
     came: Come,
-    /// So many keys are due, under way or not taken on.
+    /// How many keys are due, under way, or have not gone on with what came.
     out: usize,
-    /// So many keys from the first one on got lists of values.
+    /// How many keys at the front of the request got lists of values.
     ahead: usize,
     plan: KeyPlan,
     /// A key got no list of values, or memory ran out for one.
     failed: bool,
     lost: bool,
-    /// So many attempts at the key of the last call were told before it.
+    /// How many attempts at the last call's key the observer was told before that call.
     told: usize,
-    /// So many bytes of responses are kept.
+    /// How many bytes of responses are kept; it stays at 2^64 - 1.
     held: usize,
 }
 

@@ -12,7 +12,7 @@ pub enum Grouping {
 /// How the keys of a request for several are sent.
 #[derive(Clone, Copy, Debug, PartialEq, Eq)]
 pub struct KeyPlan {
-    /// So many of them are due, or under way, at once at most.
+    /// At most this many keys are due or under way at once.
     pub most: usize,
     pub grouping: Grouping,
 }

@@ -196,7 +196,7 @@ impl Slot {
         self.waiting.is_none() && self.key.is_listed()
     }
 
-    /// Whether they ended, and it is none.
+    /// Whether the attempts ended, and the response is no list of values.
     pub(crate) fn has_failed(&self) -> bool
         ensures { result ≡ has_failed self.now }
     {

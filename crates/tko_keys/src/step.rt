@@ -12,7 +12,7 @@ pub enum KeyStep {
     Tried(Trail),
 }
 
-/// The same with the permission to send it.
+/// The same of a key's slot; where it is due it has the permission to send.
 #[derive(Drop)]
 pub(crate) enum SlotStep {
     Due(Clear),

@@ -18,7 +18,7 @@ pub(crate) struct KeyLine {
     pub others: Vec<usize>,
     /// The request for all of them.
     pub request: Request,
-    /// So many bytes it has at most.
+    /// At most how many bytes the request has.
     pub bytes: usize,
 }
 

@@ -29,7 +29,7 @@ came_of_bytes (Err fault.Short) = Some outcome.Broken
 came_of_bytes (Err fault.Unreadable) = Some outcome.Broken
 came_of_bytes (Err fault.Memory) = None
 
--- that comes of a request that these bytes answer
+-- `came` is what comes of a request that these bytes answer
 abbrev pub ComesOfBytes : List ℕ → Request → Option Outcome → Type 0
 ComesOfBytes bytes request came =
     (read : Result (Response × ℕ) ReadFault)
@@ -41,19 +41,19 @@ hit_text key cas text =
     codes "VALUE " ++ key ++ codes " 0 " ++ decimal (length text) ++ cas ++ codes "\r\n" ++ text
     ++ codes "\r\nEND\r\n"
 
--- that comes of a retrieval of these keys that such a value of its one key answers
+-- `came` is what comes of a retrieval of these keys where such a value of the one key answers it
 abbrev pub HitsKeys : List (List ℕ) → List ℕ → List ℕ → Request → Option Outcome → Type 0
 HitsKeys (key ∷ []) cas text request came = ComesOfBytes (hit_text key cas text) request came
 HitsKeys _ cas text request came = came ≡ Some outcome.Broken
 
--- that comes of a request that a value of its key answers; only `gets` gets a cas number, and a
--- request that is no retrieval cannot read a value
+-- `came` is what comes of a request that a value of its key answers; only `gets` gets a cas number,
+-- and a request that is no retrieval cannot read a value
 abbrev pub Hits : List ℕ → Request → Option Outcome → Type 0
 Hits text (request.Get keys) came = HitsKeys keys [] text (request.Get keys) came
 Hits text (request.Gets keys) came = HitsKeys keys (codes " 1") text (request.Gets keys) came
 Hits text _ came = came ≡ Some outcome.Broken
 
--- this script gives that to a request
+-- `came` is what this script makes come of a request
 abbrev pub ScriptGives : Script → Request → Option Outcome → Type 0
 ScriptGives script.Refused request came = came ≡ Some outcome.Refused
 ScriptGives script.Timeout request came = came ≡ Some outcome.Timeout
@@ -61,7 +61,7 @@ ScriptGives script.Broken request came = came ≡ Some outcome.Broken
 ScriptGives (script.Bytes bytes) request came = ComesOfBytes bytes.items request came
 ScriptGives (script.Hit text) request came = Hits text.items request came
 
--- the next script gives it; a used-up list refuses
+-- `came` is what the next script makes come of a request; a used-up list refuses
 abbrev pub NextGives : Option Script → Request → Option Outcome → Type 0
 NextGives None request came = came ≡ Some outcome.Refused
 NextGives (Some next) request came = ScriptGives next request came

@@ -14,7 +14,7 @@ pub(crate) enum LinkFault {
 }
 
 impl LinkFault {
-    /// What a failed read or write is to an exchange.
+    /// The fault of an exchange in which a read or write failed so.
     pub(crate) fn of(fault: WireFault) -> LinkFault
         ensures { result ≡ link_fault_of fault }
     {
@@ -24,7 +24,7 @@ impl LinkFault {
         }
     }
 
-    /// What the exchange returns, which was counted.
+    /// The result of an exchange with this fault, whose send was counted.
     pub(crate) fn outcome(self) -> Result<Outcome, ExchangeNoMemory>
         ensures { result ≡ exchange_outcome self }
     {

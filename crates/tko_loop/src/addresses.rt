@@ -21,12 +21,12 @@ pub struct Addresses {
     all: Vec<SocketAddr>,
     /// The place of the address at which the next connection is begun.
     next: usize,
-    /// And of that at which the last one was.
+    /// The place of the address at which the last connection was begun.
     last: usize,
     /// How many were begun since one was made, since those that wait were told that none could be,
     /// or since a look-up was asked for because none was.
     tried: usize,
-    /// Where a look-up is awaited: how many had ended.
+    /// While a look-up is awaited: how many had ended when it was asked for.
     awaited: Option<u64>,
 }
 

@@ -37,7 +37,7 @@ pub trait Host<P, T: Talking<P> + Drop> {
         ensures count { length worker.new.peers.items ≡ length worker.old.peers.items }
         ensures order { IsInOrder (T.awaited, T.talk, L.port) T.ready worker.new.clients };
 
-    /// So much the worker serves after a walk over its clients, of which there is one each 100 ms.
+    /// Tells how much the worker serves, after each walk over its clients: one each 100 ms.
     fn looked(&mut self, load: &Load);
 
     /// A client that came could not be taken in, and was closed: memory ran out, or its socket

@@ -18,7 +18,7 @@ pub struct Load {
 }
 
 impl Load {
-    /// That of a worker that serves nobody.
+    /// The load of a worker that serves nobody.
     pub fn none() -> Load {
         Load {
             clients: 0,
@@ -27,7 +27,7 @@ impl Load {
         }
     }
 
-    /// That of this worker.
+    /// The load of this worker.
     pub(crate) fn of<P, L: Port + Drop, T: Talking<P> + Drop>(worker: &EventWorker<L, T, P>) -> Load
         ensures { IsLoadOf (T.awaited, T.talk, L.port) worker.now result }
     {

@@ -232,14 +232,14 @@ impl WorkerMeter {
         }
     }
 
-    /// So often the worker has sent to this server.
+    /// Sets how often the worker has sent to this server.
     pub fn set_sends(&self, server: usize, sends: u64) {
         if let Some(server) = self.server(server) {
             server.sends.set(sends);
         }
     }
 
-    /// So often the worker has probed this server.
+    /// Sets how often the worker has probed this server.
     pub fn set_probes(&self, server: usize, probes: u64) {
         if let Some(server) = self.server(server) {
             server.probes.set(probes);

@@ -75,8 +75,8 @@ impl<P, S: Asking<P> + Drop> Mux<S, P> {
         self.roster.admit(Client { session })
     }
 
-    /// Takes the number from its session, unless a request of it is under way: then the session
-    /// keeps its number, and takes what comes of that.
+    /// Frees a number and returns its session, unless a request of it is under way: then the
+    /// session keeps the number until it took what comes of that.
     pub fn close(&mut self, number: usize) -> Option<S>
         requires ready { AreReady ⟦<Client<S> as Driven<P>>⟧.ready self.old.roster }
         requires linked { AreLinked S.awaited self.old.roster.slots self.old.lines }

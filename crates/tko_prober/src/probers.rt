@@ -11,7 +11,7 @@ use tko_bytes::NoMemory;
 use tko_model::Reply;
 use tko_route::Attempt;
 
-/// What a server is to the probers.
+/// Whether a server is probed.
 #[derive(Debug, Drop)]
 pub enum ProbeSlot {
     /// It is not probed: no failure marked it, or its prober has ended.

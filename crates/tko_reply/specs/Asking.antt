@@ -77,8 +77,8 @@ pub data Joins (begin : ℕ) (left : List (List ℕ)) (found : Option Response) 
       → outbox' ≡ outbox ++ unwrap_or (values_text_in found) []
       → Joins begin left found outbox share' outbox'
 
--- what the response to a key is to the reply, which it had this share of, and has that share of
--- once it is in the outbox
+-- a response is put into the outbox, as the whole reply or as the next part of one: the part and
+-- the outbox before and after
 abbrev pub Replies : ReplyPart → Option Response → List ℕ → ReplyPart → List ℕ → Type 0
 Replies (share.Whole silent) found outbox share' outbox' = (share' ≡ share.Whole silent)
     × (outbox' ≡ outbox ++ (if silent then [] else text_of_answer found))

@@ -32,19 +32,19 @@ mod recorded;
 /// The reply to `version`.
 const VERSION: &[u8] = b"VERSION tkoproxy 1\r\n";
 
-/// One key of a request, in a request of its own. It is changed in place from one key to the next,
-/// since to move a request costs more than all that is decided about it. How far it is, is the
-/// `Stage` of its routing: its request, as it is now, may be sent once, and what came of that is
-/// passed to `answered`; or the attempts at it have ended, its response is in the outbox, and
-/// `go_on` is next. Nothing is borrowed, so that other requests may be answered between two calls;
-/// but nothing else is put into its outbox until the reply is complete.
+/// A request for one key. It is changed in place from one key to the next, since moving a request
+/// costs more than deciding about it. Its `Stage` says what is next: the request may be sent once,
+/// and what came of that is passed to `answered`; or the attempts at the key have ended, the
+/// response is in the outbox, and `go_on` is next. Nothing is borrowed between two calls, so other
+/// requests may be answered there; but nothing else may be put into its outbox until the reply is
+/// complete.
 #[derive(Drop)]
 pub struct OneKey {
     request: Request,
     share: ReplyPart,
 }
 
-/// What the response to a key is to the reply.
+/// Whether the response to a key is the whole reply, or one part of it.
 #[derive(Drop)]
 pub(crate) enum ReplyPart {
     /// All of it, and it is written unless the request is silent.

@@ -23,7 +23,7 @@ pub(crate) fn result_of(came: Came) -> Result<Outcome, ExchangeNoMemory>
     }
 }
 
-/// The same to the prober that sent it.
+/// What the prober takes for the result of its probe.
 pub(crate) fn probed_by(came: &Came) -> Probed
     ensures { result ≡ probed_of_came came.now }
 {

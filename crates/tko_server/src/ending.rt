@@ -14,8 +14,8 @@ pub(crate) struct ServedReport {
     pub(crate) accepted: u64,
 }
 
-/// What a server came to whose workers met this, and which ended accepting so, after so many
-/// connections. Its workers end before it does only where memory runs out.
+/// The result of a server, by what its workers report, why it stopped accepting, and how many
+/// connections it had accepted. Workers that are gone before that mean that memory ran out.
 pub(crate) fn ended_by(
     report: Result<WorkerReport, NoMemory>,
     ended: AcceptEnd,

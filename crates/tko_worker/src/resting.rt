@@ -22,7 +22,7 @@ pub struct Outlook {
 }
 
 impl Outlook {
-    /// That of no server.
+    /// What lies ahead where there is no server.
     pub(crate) fn clear() -> Outlook
         ensures { result ≡ record { rests = true; due = None; wants = false } }
     {
@@ -33,7 +33,7 @@ impl Outlook {
         }
     }
 
-    /// That of a server at this moment.
+    /// What lies ahead of one server at this moment.
     pub(crate) fn of<P, S: Asking<P> + Drop, L: Port + Drop>(
         mux: &Mux<S, P>,
         peer: &Peer<L>,
@@ -49,7 +49,7 @@ impl Outlook {
         }
     }
 
-    /// That of these servers and of others.
+    /// What lies ahead of these servers and the others together.
     pub(crate) fn and(self, other: Outlook) -> Outlook
         ensures rests { result.rests ≡ (self.rests && other.rests) }
         ensures due { result.due ≡ earlier self.due other.due }

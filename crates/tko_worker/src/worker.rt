@@ -23,7 +23,7 @@ pub struct Worker<L, T, P> {
     pub(crate) mux: Mux<Guest<L, T>, SharedParts<P>>,
     /// The numbers of clients that are to be served in this turn.
     pub(crate) touched: Vec<usize>,
-    /// And of those that are served again in the next.
+    /// The numbers of clients that are to be served again in the next turn.
     pub(crate) spent: Vec<usize>,
     /// The clients that ended since their ends were taken.
     pub(crate) ends: EndCounts,
