@@ -1,3 +1,4 @@
+pub mod Addresses
 pub mod Fields
 pub mod Lines
 pub mod Numbers

@@ -5,10 +5,12 @@
 //! - `split_line`, `content`, `first_line`: lines, which end with LF or CR LF.
 //! - `split_word`, `is_word`, `SpacedWords`: words, which any number of spaces separate.
 //! - `Fields`: fields, which single spaces separate.
+//! - `MAX_PORT`: the greatest port of an address.
 //! - `append`: puts several pieces at the end of a buffer, or none of them; `clear`: empties a
 //!   buffer.
 #![tactic(auto)]
 
+mod addresses;
 mod appending;
 mod fields;
 mod lines;
@@ -16,6 +18,7 @@ mod memory;
 mod numbers;
 mod words;
 
+pub use addresses::MAX_PORT;
 pub use appending::{append, clear};
 pub use fields::Fields;
 pub use lines::{content, first_line, split_line};

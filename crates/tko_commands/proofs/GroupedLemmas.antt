@@ -13,19 +13,18 @@ use Rattle.tko_model.specs.Settings.{Settings, in_one_group}
 use Rattle.tko_model.specs.declared.layout.Layout.TheVariants as layout
 use Rattle.tko_model.specs.declared.one_group.OneGroup.{OneGroup}
 use Rattle.tko_pools.specs.Configs.{AreGroups, Configuration, limits_of}
-use Rattle.tko_pools.specs.SoftLimits.{max_soft_limit}
 use Rattle.tko_commands.specs.Grouped.{grouped}
 
 -- the limits of the pools, and that of the options for the others
 limits_small : (default : ℕ) (limits : List (Option ℕ)) → default ≤ max_limit
-    → All (λ limit. IfSome limit (λ n. n ≤ max_soft_limit)) limits
+    → All (λ limit. IfSome limit (λ n. n ≤ max_limit)) limits
     → All (λ n. n ≤ max_limit) (map (λ limit. unwrap_or limit default) limits)
 limits_small default [] small all = All-nil (λ n. n ≤ max_limit)
 limits_small default (None ∷ others) small all =
-    let rest = All-tail (λ limit. IfSome limit (λ n. n ≤ max_soft_limit)) None others all in
+    let rest = All-tail (λ limit. IfSome limit (λ n. n ≤ max_limit)) None others all in
     All-cons (λ n. n ≤ max_limit) default _ small (limits_small default others small rest)
 limits_small default (Some n ∷ others) small all =
-    let P : Option ℕ → Type 0 = λ limit. IfSome limit (λ n. n ≤ max_soft_limit) in
+    let P : Option ℕ → Type 0 = λ limit. IfSome limit (λ n. n ≤ max_limit) in
     let first : n ≤ max_limit = All-head P (Some n) others all in
     let rest = All-tail P (Some n) others all in
     All-cons (λ n. n ≤ max_limit) n _ first (limits_small default others small rest)

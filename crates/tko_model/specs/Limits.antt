@@ -1,4 +1,4 @@
--- The limits of the settings. No other crate has a number of its own for one of them.
+-- The limits of the settings. Where another crate names one of them, it imports it from here.
 use Rattle.std.specs.Prelude.{ℕ}
 use Rattle.tko_model.specs.declared.layout.Layout.{Layout}
 use Rattle.tko_model.specs.declared.layout.Layout.TheVariants as layout

@@ -8,7 +8,7 @@ use Rattle.std.proofs.lemmas.List.Elements.{All-nil, All-cons}
 use Rattle.std.proofs.lemmas.List.FromFn.{map-range_with_len_more}
 use Rattle.tko_pools.specs.Configs.{Configuration, IsSoundConfig, chosen_by, in_order, numbers_below, targets_of}
 use Rattle.tko_pools.specs.Hash.{fnv1a_of}
-use Rattle.tko_pools.specs.Reasons.{max_servers}
+use Rattle.tko_model.specs.Limits.{max_servers}
 use Rattle.tko_pools.specs.Routes.{default_exptime}
 use Rattle.tko_pools.proofs.LimitLemmas.{IsSmall}
 

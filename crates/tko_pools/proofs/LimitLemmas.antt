@@ -7,14 +7,15 @@ use Rattle.std.proofs.lemmas.List.Elements.{All-nil, All-cons}
 use Rattle.serde_json.specs.Data.{Data}
 use Rattle.serde_json.specs.Find.{as_number, as_u64, get}
 use Rattle.tko_pools.specs.Configs.{soft_limits_at}
-use Rattle.tko_pools.specs.SoftLimits.{limit_below, limit_value, max_soft_limit, soft_limit_named, soft_limit_of}
+use Rattle.tko_model.specs.Limits.{max_limit}
+use Rattle.tko_pools.specs.SoftLimits.{limit_below, limit_value, soft_limit_named, soft_limit_of}
 
 -- a soft limit, where there is one, is not above the greatest
 abbrev pub IsSmall : Option ℕ → Type 0
-IsSmall limit = IfSome limit (λ n. n ≤ max_soft_limit)
+IsSmall limit = IfSome limit (λ n. n ≤ max_limit)
 
-tested-small : (n : ℕ) (test : Bool) → nat_le n max_soft_limit ≡ test → IsSmall (cond test (Some n) None)
-tested-small n true is = leb-true n max_soft_limit is
+tested-small : (n : ℕ) (test : Bool) → nat_le n max_limit ≡ test → IsSmall (cond test (Some n) None)
+tested-small n true is = leb-true n max_limit is
 tested-small n false is = tt
 
 then-small : {T : Type 0} (f : T → Option ℕ) (found : Option T) → ((x : T) → IsSmall (f x))
@@ -24,7 +25,7 @@ then-small f (Some x) each = each x
 
 of-small : (value : Data) → IsSmall (soft_limit_of value)
 of-small value =
-    then-small limit_below (option_and_then as_u64 (as_number value)) (λ n. tested-small n (nat_le n max_soft_limit) refl)
+    then-small limit_below (option_and_then as_u64 (as_number value)) (λ n. tested-small n (nat_le n max_limit) refl)
 
 named-small : (pools : Data) (name : List ℕ) → IsSmall (soft_limit_named pools name)
 named-small pools name =

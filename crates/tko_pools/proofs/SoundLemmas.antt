@@ -13,7 +13,8 @@ use Rattle.std.proofs.Math.Nat.{zero-lt-suc}
 use Rattle.serde_json.specs.Data.{Data, null, boolean, number, string, array, object, Members, no_members, member}
 use Rattle.serde_json.specs.Find.{get, get_member}
 use Rattle.tko_pools.specs.Json.{pool_list, pool_of, pools_of, servers_named, servers_of}
-use Rattle.tko_pools.specs.Reasons.{pool_reason, pools_reason, max_servers, unknown_child}
+use Rattle.tko_model.specs.Limits.{max_servers}
+use Rattle.tko_pools.specs.Reasons.{pool_reason, pools_reason, unknown_child}
 use Rattle.tko_pools.specs.Configs.{AreGroups, IsSoundConfig, addresses_of, child_of, soft_limits_in}
 use Rattle.tko_pools.specs.Groups.{first_place, groups_in, owners_of, owning}
 use Rattle.tko_pools.specs.SoftLimits.{limit_value, soft_limit_named}

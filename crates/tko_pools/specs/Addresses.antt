@@ -3,17 +3,12 @@ use Rattle.std.specs.Prelude.{ℕ, ◌+◌, Bool, false, ◌&&◌, nat_le, List,
 use Rattle.std.specs.Char.{is_ascii_graphic}
 use Rattle.std.specs.List.{list_all}
 use Rattle.memchr.specs.Find.{is_byte, last_of, places}
+use Rattle.tko_bytes.specs.Addresses.{colon, max_port}
 use Rattle.tko_bytes.specs.Numbers.{number_of}
-
-abbrev pub colon : ℕ
-colon = 58
 
 -- the most bytes of an address
 abbrev pub max_address : ℕ
 max_address = 255
-
-abbrev pub max_port : ℕ
-max_port = 65535
 
 -- the last place of a colon
 unfoldable pub last_colon : List ℕ → Option ℕ

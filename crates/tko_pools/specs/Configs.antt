@@ -11,9 +11,11 @@ use Rattle.tko_pools.specs.Json.{pools_in, servers_named}
 use Rattle.tko_pools.specs.Numbering.{number_in, numbered}
 use Rattle.tko_pools.specs.declared.fault.ConfigFault.{ConfigFault}
 use Rattle.tko_pools.specs.declared.fault.ConfigFault.TheVariants as fault
-use Rattle.tko_pools.specs.Reasons.{Reports, max_servers, reason_of}
+use Rattle.tko_model.specs.Limits.{max_servers}
+use Rattle.tko_pools.specs.Reasons.{Reports, reason_of}
 use Rattle.tko_pools.specs.Routes.{RouteRead, default_exptime, route_in}
-use Rattle.tko_pools.specs.SoftLimits.{max_soft_limit, soft_limit_named}
+use Rattle.tko_model.specs.Limits.{max_limit}
+use Rattle.tko_pools.specs.SoftLimits.{soft_limit_named}
 
 pub record Configuration : Type 0 where
   -- the addresses in the order of their numbers
@@ -118,7 +120,7 @@ pub record AreGroups (config : Configuration) : Type 0 where
   pub few : length config.soft_limits ≤ max_servers
   pub one_each : length config.groups ≡ length config.addresses
   pub within : All (λ group. group < length config.soft_limits) config.groups
-  pub small : All (λ limit. IfSome limit (λ n. n ≤ max_soft_limit)) config.soft_limits
+  pub small : All (λ limit. IfSome limit (λ n. n ≤ max_limit)) config.soft_limits
 
 -- each child has a server, each number is below the number of addresses, and the servers have
 -- groups

@@ -4,6 +4,7 @@ use Rattle.std.specs.List.{find, flat_map}
 use Rattle.std.specs.Option.{is_none, option_or}
 use Rattle.serde_json.specs.Data.{Data}
 use Rattle.serde_json.specs.Find.{get}
+use Rattle.tko_model.specs.Limits.{max_servers}
 use Rattle.tko_pools.specs.declared.fault.ConfigFault.{ConfigFault}
 use Rattle.tko_pools.specs.declared.fault.ConfigFault.TheVariants as fault
 use Rattle.tko_pools.specs.Addresses.{is_address}
@@ -26,9 +27,6 @@ pub data Reason : Type 0 where
   -- a child of the route names this pool, which is not there
   NoSuchPool : List ℕ → Reason
   TooManyServers : Reason
-
-abbrev pub max_servers : ℕ
-max_servers = 256
 
 -- the first item of a pool's list that is no address
 abbrev pub bad_address : List (List ℕ) → Option (List ℕ)

@@ -3,12 +3,10 @@ use Rattle.std.specs.Prelude.{ℕ, nat_le, Bool, false, if◌then◌else◌, Lis
 use Rattle.std.specs.Option.{is_none}
 use Rattle.serde_json.specs.Data.{Data}
 use Rattle.serde_json.specs.Find.{get, as_number, as_u64}
-
-abbrev pub max_soft_limit : ℕ
-max_soft_limit = 256
+use Rattle.tko_model.specs.Limits.{max_limit}
 
 abbrev pub limit_below : ℕ → Option ℕ
-limit_below n = if nat_le n max_soft_limit then Some n else None
+limit_below n = if nat_le n max_limit then Some n else None
 
 -- a whole number in its range
 abbrev pub soft_limit_of : Data → Option ℕ

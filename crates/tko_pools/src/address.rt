@@ -5,11 +5,9 @@ ghost use Rattle.std.specs.List.{list_all};
 ghost use Rattle.tko_pools.specs.Addresses.{is_address, is_parted_at, is_port, last_colon};
 
 use memchr::memrchr;
-use tko_bytes::number;
+use tko_bytes::{MAX_PORT, number};
 
 const MAX_ADDRESS: usize = 255;
-
-const MAX_PORT: u64 = 65_535;
 
 /// Whether a text is an address, `<host>:<port>`.
 #[tactic(auto, unfolding(crate::specs::Addresses::is_address))]

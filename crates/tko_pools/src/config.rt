@@ -20,7 +20,7 @@ use std::marker::Model;
 use tko_bytes::NoMemory;
 
 /// The most different addresses of all children together.
-const MAX_SERVERS: usize = 256;
+const MAX_ADDRESSES: usize = tko_model::MAX_SERVERS as usize;
 
 /// A configuration: the addresses of the servers by their numbers, the servers of each child of the
 /// route, and the groups of the servers. In contracts it is a `Configuration`.
@@ -98,7 +98,7 @@ impl Config {
             return Err(ConfigFault::NoSuchPool(String::from_str(alloc, name)?));
         }
         let addresses = addresses_of(alloc, pools, names)?;
-        if addresses.len() > MAX_SERVERS {
+        if addresses.len() > MAX_ADDRESSES {
             return Err(ConfigFault::TooManyServers);
         }
         let children = children_of(alloc, &addresses, pools, names)?;

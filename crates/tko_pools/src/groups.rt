@@ -4,7 +4,7 @@ ghost use Rattle.std.specs.List.{position};
 ghost use Rattle.serde_json.specs.View.{view};
 ghost use Rattle.tko_pools.specs.Configs.{soft_limits_at, soft_limits_in};
 ghost use Rattle.tko_pools.specs.Groups.{first_child_with, first_place, groups_in, groups_of, is_number_in, owners_of, owning};
-ghost use Rattle.tko_pools.specs.Reasons.{max_servers};
+ghost use Rattle.tko_model.specs.Limits.{max_servers};
 
 use crate::soft_limits::soft_limit_named;
 use serde_json::Value;

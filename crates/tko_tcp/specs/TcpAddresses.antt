@@ -1,10 +1,7 @@
 -- Addresses of servers, as a connection over TCP uses them.
 use Rattle.std.specs.Prelude.{◌≡◌, ℕ, List, [], ◌∷◌, ◌++◌, Some}
+use Rattle.tko_bytes.specs.Addresses.{colon, max_port}
 use Rattle.tko_bytes.specs.Numbers.{number_of}
-
--- the byte `:`
-abbrev pub colon : ℕ
-colon = 58
 
 -- the byte `[`
 abbrev pub open_bracket : ℕ
@@ -13,10 +10,6 @@ open_bracket = 91
 -- the byte `]`
 abbrev pub close_bracket : ℕ
 close_bracket = 93
-
--- the greatest port
-abbrev pub max_port : ℕ
-max_port = 65535
 
 -- the most addresses of one host that are kept
 abbrev pub most_addresses : ℕ

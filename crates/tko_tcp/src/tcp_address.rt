@@ -2,9 +2,7 @@
 ghost use Rattle.std.specs.Prelude.{◌≡◌, IfSome};
 ghost use Rattle.tko_tcp.specs.TcpAddresses.{IsParted, IsBare};
 
-use tko_bytes::number;
-
-const MAX_PORT: u64 = 65_535;
+use tko_bytes::{MAX_PORT, number};
 
 /// The host and the port of an address, which the last colon separates. Brackets round the host, as
 /// they are often written round an IPv6 address, are removed.

@@ -3,13 +3,18 @@ use Rattle.std.specs.Prelude.{◌≡◌, ℕ, ◌/◌, ◌%◌, ◌==◌, Bool, 
 use Rattle.std.specs.Int.{bit_at}
 use Rattle.tko_table.specs.Passes.{owns}
 
--- servers are below this
-abbrev pub server_end : ℕ
-server_end = 256
+-- the bits of a word
+abbrev pub word_bits : ℕ
+word_bits = 64
+
+-- how many words have a bit for each server
+abbrev pub owned_words : ℕ
+owned_words = 4
 
 -- whether the bit of this server is set
 unfoldable pub is_set : List ℕ → ℕ → Bool
-is_set words server = bit_at (slice_index_or words (server / 64) 0) (server % 64) == 1
+is_set words server = bit_at (slice_index_or words (server / word_bits) 0) (server % word_bits)
+    == 1
 
 -- the bits are those of these servers
 pub record AreBitsOf (owned : List ℕ) (words : List ℕ) : Type 0 where

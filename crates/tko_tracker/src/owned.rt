@@ -1,53 +1,60 @@
-//! The servers that a pass owns: bit `s % 64` of word `s / 64` is that of server `s`.
+//! The servers that a pass owns: bit `s % WORD_BITS` of word `s / WORD_BITS` is that of server `s`.
 ghost use Rattle.std.specs.Prelude.{◌≡◌, ◌<◌, ℕ, false, true, if◌then◌else◌, ◌==◌, length, List};
+ghost use Rattle.tko_model.specs.Limits.{max_servers};
 ghost use Rattle.tko_tracker.specs.Calls.{gives, owned_left, takes};
-ghost use Rattle.tko_tracker.specs.Owned.{AreBitsOf, is_set, server_end};
+ghost use Rattle.tko_tracker.specs.Owned.{AreBitsOf, is_set, owned_words};
 
-use tko_model::Reply;
+use tko_model::{MAX_SERVERS, Reply};
 
 /// Servers are below this.
-pub(crate) const SERVER_END: usize = 256;
+pub(crate) const SERVER_END: usize = MAX_SERVERS as usize;
+
+/// The bits of a word.
+const WORD_BITS: usize = 64;
+
+/// How many words have a bit for each server.
+const WORDS: usize = 4;
 
 /// A set of servers, with a bit for each that there may be.
 #[derive(Drop)]
 pub struct Owned {
-    words: [u64; 4],
-    ghost count: { length words ≡ 4 },
+    words: [u64; WORDS],
+    ghost count: { length words ≡ owned_words },
 }
 
 impl Owned {
     pub(crate) fn none() -> Owned
         ensures { (server : ℕ) → is_set result.words server ≡ false }
     {
-        Owned { words: [0; 4] }
+        Owned { words: [0; WORDS] }
     }
 
     pub(crate) fn has(&self, server: usize) -> bool
-        requires { server < server_end }
+        requires { server < max_servers }
         ensures { result ≡ is_set self.now.words server }
     {
-        (self.words[server / 64] >> (server % 64)) & 1 == 1
+        (self.words[server / WORD_BITS] >> (server % WORD_BITS)) & 1 == 1
     }
 
     pub(crate) fn insert(&mut self, server: usize)
-        requires { server < server_end }
+        requires { server < max_servers }
         ensures { (other : ℕ) → is_set self.new.words other
             ≡ (if other == server then true else is_set self.old.words other) }
     {
-        self.words[server / 64] |= 1 << (server % 64);
+        self.words[server / WORD_BITS] |= 1 << (server % WORD_BITS);
     }
 
     pub(crate) fn remove(&mut self, server: usize)
-        requires { server < server_end }
+        requires { server < max_servers }
         ensures { (other : ℕ) → is_set self.new.words other
             ≡ (if other == server then false else is_set self.old.words other) }
     {
-        self.words[server / 64] &= !(1 << (server % 64));
+        self.words[server / WORD_BITS] &= !(1 << (server % WORD_BITS));
     }
 
     /// The owned servers after a call on this server with this reply.
     pub(crate) fn record(&mut self, reply: Reply, server: usize)
-        requires { server < server_end }
+        requires { server < max_servers }
         ensures { (owned : List ℕ) → AreBitsOf owned self.old.words →
             AreBitsOf (owned_left reply server owned) self.new.words }
     {

@@ -1,7 +1,7 @@
 //! The configuration without pools.
 ghost use Rattle.std.specs.Prelude.{◌≡◌, ◌≤◌, ℕ, [], ◌∷◌, List, IfOk, length, map, string_bytes};
 ghost use Rattle.tko_pools.specs.Configs.{in_order, numbers_below, targets_of};
-ghost use Rattle.tko_pools.specs.Reasons.{max_servers};
+ghost use Rattle.tko_model.specs.Limits.{max_servers};
 
 use super::Config;
 use crate::numbering::NumberedAddresses;

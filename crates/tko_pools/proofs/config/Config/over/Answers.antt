@@ -3,7 +3,8 @@ use Rattle.std.specs.Prelude.{None}
 use Rattle.serde_json.specs.View.{view}
 use Rattle.tko_pools.specs.Configs.{soft_limits_in}
 use Rattle.tko_pools.specs.Groups.{groups_in}
-use Rattle.tko_pools.specs.Reasons.{max_servers, unknown_child}
+use Rattle.tko_model.specs.Limits.{max_servers}
+use Rattle.tko_pools.specs.Reasons.{unknown_child}
 use Rattle.tko_pools.proofs.SoundLemmas.{is-sound}
 use Rattle.tko_pools.proofs.config.Config.over.Goals as goal
 

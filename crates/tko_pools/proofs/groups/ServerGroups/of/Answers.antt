@@ -1,5 +1,5 @@
 use Rattle.std.proofs.Common.{◌∙◌, length, map}
-use Rattle.tko_pools.specs.Reasons.{max_servers}
+use Rattle.tko_model.specs.Limits.{max_servers}
 use Rattle.tko_pools.proofs.GroupLemmas.{few-owned}
 use Rattle.tko_pools.proofs.groups.ServerGroups.of.Goals as goal
 
