@@ -43,12 +43,12 @@ impl Answering {
     }
 
     /// Whether a request is under way.
-    pub(crate) fn is_waiting(&self) -> bool
+    pub(crate) fn is_asking(&self) -> bool
         ensures some { OnTrue result (awaited_by_client self.now ≢ []) }
         ensures none { OnFalse result (awaited_by_client self.now ≡ []) }
     {
         match &self.keys {
-            Some(keys) => keys.is_waiting(),
+            Some(keys) => keys.is_asking(),
             None => self.session.awaited().is_some(),
         }
     }

@@ -174,8 +174,8 @@ impl<'r, R: IoRuntime, H: Health, T: Trails, C> Talking<Lent<'r, R, H, T, C>> fo
         halt.asked
     }
 
-    fn is_waiting(&self) -> bool {
-        self.answering.is_waiting()
+    fn is_asking(&self) -> bool {
+        self.answering.is_asking()
     }
 
     fn request(&self) -> &Request {

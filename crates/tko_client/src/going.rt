@@ -90,7 +90,7 @@ fn call_once<R: IoRuntime, H: Health, T: Trails, C>(
             } else if keys.may_begin() {
                 begin_key(rt, alloc, keys, parts);
                 Went::On
-            } else if keys.is_waiting() {
+            } else if keys.is_asking() {
                 Went::Waits
             } else {
                 end_keys(it)

@@ -137,7 +137,7 @@ impl KeysAtOnce {
     }
 
     /// Whether requests of it are under way.
-    pub fn is_waiting(&self) -> bool
+    pub fn is_asking(&self) -> bool
         ensures { IsTrue result ↔ (awaited self.now ≢ []) }
     {
         !self.sends.is_empty()

@@ -21,7 +21,7 @@ use tko_links::{ExchangeNoMemory, Outcome};
 use tko_model::Reply;
 use tko_pools::Config;
 use tko_reply::{Dropped, OneKey, Outbox, stop};
-use tko_route::{Health, Stage, Waiting};
+use tko_route::{AwaitedSend, Health, Stage};
 use tko_text::Request;
 
 /// A key that was begun. Its response is kept apart from those of the other keys, since they come
@@ -33,7 +33,7 @@ pub(crate) struct Slot {
     pub targets: SmallVec<usize, 1>,
     pub outbox: Outbox,
     /// While it is due at a server, or its request is under way.
-    pub waiting: Option<Waiting>,
+    pub waiting: Option<AwaitedSend>,
 }
 
 impl Model for Slot {

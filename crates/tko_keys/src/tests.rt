@@ -209,7 +209,7 @@ fn answer_all<R: IoRuntime>(
     begin_all(rt, alloc, keys, servers)?;
     let mut attempts = 0;
     for _ in 0..20 {
-        if !keys.is_waiting() {
+        if !keys.is_asking() {
             break;
         }
         attempts += answer(rt, alloc, keys, servers, 0)?;

@@ -148,7 +148,7 @@ impl Talking<()> for EchoSession {
         None
     }
 
-    fn is_waiting(&self) -> bool {
+    fn is_asking(&self) -> bool {
         self.awaits.is_some()
     }
 

@@ -10,7 +10,7 @@ use Rattle.tko_roster.proofs.SlotLemmas.{at_index, get_set_same}
 use Rattle.tko_mux.specs.declared.asking.Came.TheVariants as came
 use Rattle.tko_mux.specs.declared.mux.delivery.Delivery.{Delivery}
 use Rattle.tko_mux.specs.Asks.{AskingActs}
-use Rattle.tko_mux.specs.Lines.{LineLeaves, LineState, waiters, waiting_on}
+use Rattle.tko_mux.specs.Lines.{LineLeaves, LineState, waiters, pipe_waiters}
 use Rattle.tko_mux.specs.Linking.{AreLinked, IsFree, awaited_at, waiters_at}
 use Rattle.tko_mux.specs.Muxes.{HasNoneLeaving, IsDelivered, IsTold, MuxState}
 use Rattle.tko_mux.proofs.LineLemmas.{left_leaves}
@@ -64,7 +64,7 @@ none_left was now left leaves is =
     let none : LineLeaves was None now =
     subst (λ (l : Option (Asker × Fate)). LineLeaves was l now) is leaves in
     ap waiters none.1
-    ∙ ap (λ (w : List Waiter). w ++ waiting_on was.pipe) (sym none.0)
+    ∙ ap (λ (w : List Waiter). w ++ pipe_waiters was.pipe) (sym none.0)
 
 pub none_leave_now : (lines : List LineState) (server : ℕ) (was now : LineState)
     (left : Option (Asker × Fate)) → server < length lines → LineLeaves was left now → left ≡ None

@@ -17,21 +17,21 @@ use Rattle.tko_pipe.specs.Ends.{ExpireEnds, GotEnds, IsChecked, TakeEnds}
 use Rattle.tko_pipe.specs.Pipes.{IsShut, Shutting, is_asked}
 use Rattle.tko_roster.specs.Rosters.{RosterState}
 use Rattle.tko_mux.specs.declared.client.Client.{Client}
-use Rattle.tko_mux.specs.Lines.{IsLineLeft, IsLinePushed, IsOnLive, IsOnPipe, LineState, line_by, line_of, waiters, waiting_on}
+use Rattle.tko_mux.specs.Lines.{IsLineLeft, IsLinePushed, IsOnLive, IsOnPipe, LineState, line_by, line_of, waiters, pipe_waiters}
 use Rattle.tko_mux.specs.Muxes.{ReadsFirst, WaitsFor}
 use Rattle.tko_mux.specs.Linking.{waiters_at, waiters_on}
 
 -- those that wait on a connection wait on its line
-line_waits : (link : Link) (pipe : PipeState) → waiters (line_by link pipe) ≡ pipe.waiting
+line_waits : (link : Link) (pipe : PipeState) → waiters (line_by link pipe) ≡ pipe.waiters
 line_waits Connecting pipe = refl
 line_waits Connected pipe = refl
-line_waits (Shut left) pipe = append-nil pipe.waiting
+line_waits (Shut left) pipe = append-nil pipe.waiters
 
-pub line_of_waits : (pipe : PipeState) → waiters (line_of pipe) ≡ pipe.waiting
+pub line_of_waits : (pipe : PipeState) → waiters (line_of pipe) ≡ pipe.waiters
 line_of_waits pipe = line_waits pipe.link pipe
 
 begun_waits : (limit : ℕ) (pipe : Option PipeState)
-    → (unwrap_or pipe (opened_pipe limit)).waiting ≡ waiting_on pipe
+    → (unwrap_or pipe (opened_pipe limit)).waiters ≡ pipe_waiters pipe
 begun_waits limit None = refl
 begun_waits limit (Some it) = refl
 
@@ -40,11 +40,11 @@ pub pushed_waits : (limit : ℕ) (old new : LineState) (it : Pushing)
     → IsLinePushed limit old it new → waiters new ≡ waiters old ++ it.waiter ∷ []
 pushed_waits limit old new it step =
     let last : List Waiter = it.waiter ∷ [] in
-    let now : step.pipe.waiting ≡ waiting_on old.pipe ++ last =
-    ap (λ (p : PipeState). p.waiting) step.pushed.state
+    let now : step.pipe.waiters ≡ pipe_waiters old.pipe ++ last =
+    ap (λ (p : PipeState). p.waiters) step.pushed.state
     ∙ ap (λ (w : List Waiter). w ++ last) (begun_waits limit old.pipe) in
-    ap waiters step.state ∙ ap (λ (w : List Waiter). waiting_on old.ended ++ w) now
-    ∙ sym (append_assoc (waiting_on old.ended) (waiting_on old.pipe) last)
+    ap waiters step.state ∙ ap (λ (w : List Waiter). pipe_waiters old.ended ++ w) now
+    ∙ sym (append_assoc (pipe_waiters old.ended) (pipe_waiters old.pipe) last)
 
 -- who waits for each server, once one line was written
 pub set_waits : (lines : List LineState) (server : ℕ) (now : LineState) → server < length lines
@@ -70,27 +70,27 @@ TakeLeaves (Err cause) old new = new ≡ old
 TakeLeaves (Ok (Some taken)) old new = OneLeaves taken.0 old new
 
 checked_waits : (test : Bool) (mid new : PipeState) → IsChecked test mid new
-    → new.waiting ≡ mid.waiting
-checked_waits true mid new same = ap (λ (p : PipeState). p.waiting) same
-checked_waits false mid new shut = ap (λ (p : PipeState). p.waiting) shut.state
+    → new.waiters ≡ mid.waiters
+checked_waits true mid new same = ap (λ (p : PipeState). p.waiters) same
+checked_waits false mid new shut = ap (λ (p : PipeState). p.waiters) shut.state
 
-shut_waits : (old new : PipeState) (it : Shutting) → IsShut old it new → new.waiting ≡ old.waiting
-shut_waits old new it shut = ap (λ (p : PipeState). p.waiting) shut.state
+shut_waits : (old new : PipeState) (it : Shutting) → IsShut old it new → new.waiters ≡ old.waiters
+shut_waits old new it shut = ap (λ (p : PipeState). p.waiters) shut.state
 
 take_leaves : (old new : PipeState) (request : Request)
     (taken : Result (Option (Asker × Response)) ShutCause) → TakeEnds old request taken new
-    → TakeLeaves taken old.waiting new.waiting
-take_leaves old new request (Ok None) ends = ap (λ (p : PipeState). p.waiting) ends.0
+    → TakeLeaves taken old.waiters new.waiters
+take_leaves old new request (Ok None) ends = ap (λ (p : PipeState). p.waiters) ends.0
 take_leaves old new request (Ok (Some taken)) ends = record {
   waiter = ends.waiter;
   is_by = ends.is_by;
   front = ends.taken.first
       ∙ ap (λ (w : List Waiter). ends.waiter ∷ w) (sym (checked_waits
-      (is_asked ends.mid.unread ends.mid.waiting ends.mid.unwritten) ends.mid new ends.checked));
+      (is_asked ends.mid.unread ends.mid.waiters ends.mid.unwritten) ends.mid new ends.checked));
 }
 take_leaves old new request (Err Unreadable) ends =
-    ap (λ (p : PipeState). p.waiting) ends.1.state
-take_leaves old new request (Err Memory) ends = ap (λ (p : PipeState). p.waiting) ends.state
+    ap (λ (p : PipeState). p.waiters) ends.1.state
+take_leaves old new request (Err Memory) ends = ap (λ (p : PipeState). p.waiters) ends.state
 take_leaves old new request (Err EndOfInput) ends = absurd ends
 take_leaves old new request (Err Fault) ends = absurd ends
 take_leaves old new request (Err (Silent now)) ends = absurd ends
@@ -99,10 +99,10 @@ take_leaves old new request (Err Unasked) ends = absurd ends
 
 -- who waits on a line where nobody leaves is who waits on its connection
 none_leave : (line : LineState) (pipe : PipeState) → line.ended ≡ None → line.pipe ≡ Some pipe
-    → waiters line ≡ pipe.waiting
+    → waiters line ≡ pipe.waiters
 none_leave line pipe none is =
-    ap (λ (p : Option PipeState). waiting_on p ++ waiting_on line.pipe) none
-    ∙ ap waiting_on is
+    ap (λ (p : Option PipeState). pipe_waiters p ++ pipe_waiters line.pipe) none
+    ∙ ap pipe_waiters is
 
 -- who waits on a line after a response was looked for there
 pub read_leaves : {S P : Type 0} (waits_for : WaitsFor S) (roster : RosterState (Client S) P)
@@ -115,47 +115,47 @@ read_leaves waits_for roster server None old new taken none reads =
     TakeLeaves it (waiters old) (waiters new)) (sym reads.0) (ap waiters reads.1)
 read_leaves waits_for roster server (Some first) old new taken none reads =
     let on = reads.on in
-    let before : on.was.waiting ≡ waiters old = sym (none_leave old on.was none on.from) in
-    let after : on.now.waiting ≡ waiters new =
+    let before : on.was.waiters ≡ waiters old = sym (none_leave old on.was none on.from) in
+    let after : on.now.waiters ≡ waiters new =
     sym (ap waiters on.to ∙ line_of_waits on.now) in
     subst (λ (w : List Waiter). TakeLeaves taken w (waiters new)) before
-    (subst (λ (w : List Waiter). TakeLeaves taken on.was.waiting w) after
+    (subst (λ (w : List Waiter). TakeLeaves taken on.was.waiters w) after
     (take_leaves on.was on.now reads.lent taken on.ends))
 
 -- one less waits on a line once one left
 pub left_leaves : (old new : LineState) (by : Asker) (came : Fate) → IsLineLeft old by came new
     → OneLeaves by (waiters old) (waiters new)
 left_leaves old new by came step =
-    let others : List Waiter = waiting_on old.pipe in
+    let others : List Waiter = pipe_waiters old.pipe in
     record {
       waiter = step.left.it.waiter;
       is_by = step.left.is_by;
-      front = ap (λ (p : Option PipeState). waiting_on p ++ others) step.from
+      front = ap (λ (p : Option PipeState). pipe_waiters p ++ others) step.from
           ∙ ap (λ (w : List Waiter). w ++ others) step.left.left.first
           ∙ ap (λ (w : List Waiter). step.left.it.waiter ∷ w) (sym (ap waiters step.state));
     }
 
 -- a call that leaves all waiting
 pub live_waits : (did : PipeState → PipeState → Type 0) (old new : LineState)
-    → ((was now : PipeState) → did was now → now.waiting ≡ was.waiting)
+    → ((was now : PipeState) → did was now → now.waiters ≡ was.waiters)
     → IsOnLive did old new → waiters new ≡ waiters old
 live_waits did old new keeps step =
     ap waiters step.to
-    ∙ ap (λ (w : List Waiter). waiting_on old.ended ++ w)
-    (keeps step.was step.now step.ends ∙ sym (ap waiting_on step.from))
+    ∙ ap (λ (w : List Waiter). pipe_waiters old.ended ++ w)
+    (keeps step.was step.now step.ends ∙ sym (ap pipe_waiters step.from))
 
 pub pipe_waits : (did : PipeState → PipeState → Type 0) (old new : LineState)
-    → old.ended ≡ None → ((was now : PipeState) → did was now → now.waiting ≡ was.waiting)
+    → old.ended ≡ None → ((was now : PipeState) → did was now → now.waiters ≡ was.waiters)
     → IsOnPipe did old new → waiters new ≡ waiters old
 pipe_waits did old new none keeps step =
     ap waiters step.to ∙ line_of_waits step.now ∙ keeps step.was step.now step.ends
     ∙ sym (none_leave old step.was none step.from)
 
 pub got_waits : (bytes : List ℕ) (now : ℕ) (result : Result Unit ShutCause) (was it : PipeState)
-    → GotEnds was bytes now result it → it.waiting ≡ was.waiting
-got_waits bytes now (Ok done) was it ends = ap (λ (p : PipeState). p.waiting) ends.state
-got_waits bytes now (Err Unasked) was it ends = ap (λ (p : PipeState). p.waiting) ends.1.state
-got_waits bytes now (Err Memory) was it ends = ap (λ (p : PipeState). p.waiting) ends.state
+    → GotEnds was bytes now result it → it.waiters ≡ was.waiters
+got_waits bytes now (Ok done) was it ends = ap (λ (p : PipeState). p.waiters) ends.state
+got_waits bytes now (Err Unasked) was it ends = ap (λ (p : PipeState). p.waiters) ends.1.state
+got_waits bytes now (Err Memory) was it ends = ap (λ (p : PipeState). p.waiters) ends.state
 got_waits bytes now (Err EndOfInput) was it ends = absurd ends
 got_waits bytes now (Err Fault) was it ends = absurd ends
 got_waits bytes now (Err (Silent at)) was it ends = absurd ends
@@ -163,6 +163,6 @@ got_waits bytes now (Err (Late at)) was it ends = absurd ends
 got_waits bytes now (Err Unreadable) was it ends = absurd ends
 
 pub expire_waits : (now : ℕ) (result : Option ShutCause) (was it : PipeState)
-    → ExpireEnds was now result it → it.waiting ≡ was.waiting
-expire_waits now None was it ends = ap (λ (p : PipeState). p.waiting) ends.1
-expire_waits now (Some cause) was it ends = ap (λ (p : PipeState). p.waiting) ends.1.state
+    → ExpireEnds was now result it → it.waiters ≡ was.waiters
+expire_waits now None was it ends = ap (λ (p : PipeState). p.waiters) ends.1
+expire_waits now (Some cause) was it ends = ap (λ (p : PipeState). p.waiters) ends.1.state

@@ -15,7 +15,7 @@ use Rattle.tko_pipe.specs.declared.waiter.Asker.{Asker}
 use Rattle.tko_roster.proofs.SlotLemmas.{at_index}
 use Rattle.tko_mux.specs.declared.mux.delivery.Delivery.{Delivery}
 use Rattle.tko_mux.specs.Asks.{AskingActs}
-use Rattle.tko_mux.specs.Lines.{IsLinePushed, LineState, first_on, waiters, waiting_on}
+use Rattle.tko_mux.specs.Lines.{IsLinePushed, LineState, first_on, waiters, pipe_waiters}
 use Rattle.tko_mux.specs.Linking.{AreLinked, AwaitsBy, AwaitsFirst, IsFree, Linked, awaited_at}
 use Rattle.tko_mux.specs.Linking.{waiters_at, waiters_on}
 use Rattle.tko_mux.specs.Muxes.{GoesToClient, HasNoneLeaving, IsResponseRead, MuxState, ReadsOn, WaitsFor}
@@ -113,18 +113,18 @@ none_leaving {S} {P} p old server was same below read none =
     (subst (λ (m : MuxState S P). HasNoneLeaving (slice_get m.lines server)) (sym same) none)
 
 -- the first that waits on a line awaits its server
-first_waiting : (aw : ℕ → List ℕ) (queue : ℕ → List Waiter) (server : ℕ) (waiting : List Waiter)
-    → Linked aw queue → queue server ≡ waiting → AwaitsFirst aw server (slice_get waiting 0)
+first_waiting : (aw : ℕ → List ℕ) (queue : ℕ → List Waiter) (server : ℕ) (here : List Waiter)
+    → Linked aw queue → queue server ≡ here → AwaitsFirst aw server (slice_get here 0)
 first_waiting aw queue server [] linked is = tt
 first_waiting aw queue server (it ∷ rest) linked is =
     awaits_by aw queue server it.by it rest linked is refl
 
 first_on_pipe : (aw : ℕ → List ℕ) (queue : ℕ → List Waiter) (server : ℕ)
-    (pipe : Option PipeState) → Linked aw queue → queue server ≡ waiting_on pipe
+    (pipe : Option PipeState) → Linked aw queue → queue server ≡ pipe_waiters pipe
     → AwaitsFirst aw server (first_on pipe)
 first_on_pipe aw queue server None linked is = tt
 first_on_pipe aw queue server (Some pipe) linked is =
-    first_waiting aw queue server pipe.waiting linked is
+    first_waiting aw queue server pipe.waiters linked is
 
 pub first_on_line : {S P : Type 0} (awaited : S → List ℕ) (p old : MuxState S P) (server : ℕ)
     (was : LineState) → p ≡ old → server < length p.lines
@@ -137,8 +137,8 @@ first_on_line {S} {P} awaited p old server was same below read linked left =
     let at : waiters_at p.lines server ≡ waiters was =
     ap waiters_on (at_index p.lines server was below read) in
     let none : was.ended ≡ None = none_leaving p old server was same below read left in
-    let all : waiters was ≡ waiting_on was.pipe =
-    ap (λ (e : Option PipeState). waiting_on e ++ waiting_on was.pipe) none in
+    let all : waiters was ≡ pipe_waiters was.pipe =
+    ap (λ (e : Option PipeState). pipe_waiters e ++ pipe_waiters was.pipe) none in
     first_on_pipe (awaited_at awaited p.roster.slots) (waiters_at p.lines) server was.pipe here
     (at ∙ all)
 

@@ -37,17 +37,17 @@ pub record AreApart (pipe ended : Option PipeState) : Type 0 where
   pub live : IsLiveOn pipe
   pub shut : WasShutOn ended
 
-abbrev pub waiting_on : Option PipeState → List Waiter
-waiting_on None = []
-waiting_on (Some pipe) = pipe.waiting
+abbrev pub pipe_waiters : Option PipeState → List Waiter
+pipe_waiters None = []
+pipe_waiters (Some pipe) = pipe.waiters
 
 -- all that wait for this server, in order
 abbrev pub waiters : LineState → List Waiter
-waiters line = waiting_on line.ended ++ waiting_on line.pipe
+waiters line = pipe_waiters line.ended ++ pipe_waiters line.pipe
 
 -- who waits for the next response
 abbrev pub first_on : Option PipeState → Option Waiter
-first_on pipe = option_and_then (λ it. slice_get it.waiting 0) pipe
+first_on pipe = option_and_then (λ it. slice_get it.waiters 0) pipe
 
 abbrev pub link_on : Option PipeState → Option Link
 link_on pipe = option_map (λ it. it.link) pipe
@@ -98,5 +98,5 @@ pub record IsLineLeft (old : LineState) (by : Asker) (came : Fate) (new : LineSt
 
 -- the next that leaves, or none: then nobody waits on a connection that was shut
 abbrev pub LineLeaves : LineState → Option (Asker × Fate) → LineState → Type 0
-LineLeaves old None new = (waiting_on old.ended ≡ []) × (new ≡ record old { ended = None })
+LineLeaves old None new = (pipe_waiters old.ended ≡ []) × (new ≡ record old { ended = None })
 LineLeaves old (Some next) new = IsLineLeft old next.0 next.1 new

@@ -15,7 +15,7 @@ one_for number Probe = 0
 
 -- how often the client of a number is among those that wait
 abbrev pub times_in : ℕ → List Waiter → ℕ
-times_in number waiting = sum_by (λ it. one_for number it.by) waiting
+times_in number queue = sum_by (λ it. one_for number it.by) queue
 
 -- those that wait for a server
 abbrev pub waiters_on : Option LineState → List Waiter

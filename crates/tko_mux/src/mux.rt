@@ -101,7 +101,7 @@ impl<P, S: Asking<P> + Drop> Mux<S, P> {
         ensures not { OnFalse result (IsNotForgotten S.awaited self.now.roster.slots number) }
     {
         match self.roster.get(number) {
-            Some(client) => !client.session.is_waiting(),
+            Some(client) => !client.session.is_asking(),
             None => false,
         }
     }

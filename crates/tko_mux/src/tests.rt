@@ -73,7 +73,7 @@ impl Asking<()> for Caller {
         }
     }
 
-    fn is_waiting(&self) -> bool {
+    fn is_asking(&self) -> bool {
         self.awaits.is_some()
     }
 

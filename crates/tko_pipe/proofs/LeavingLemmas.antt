@@ -30,11 +30,11 @@ pub record Leaves (old : PipeState) (left : Fates) (items : List PipeItem)
     pub was_shut : flat_map shut_in items ≡ []
     pub wrote : flat_map wrote_in items ≡ []
     pub got : flat_map got_in items ≡ []
-    pub queue : old.waiting ≡ unanswered_in items ++ new.waiting
+    pub queue : old.waiters ≡ unanswered_in items ++ new.waiters
     pub unwritten : new.unwritten ≡ old.unwritten
     pub unread : new.unread ≡ old.unread
     pub heard : new.heard ≡ heard_after old.heard items
-    pub fates : leaving left old.waiting ≡ flat_map left_in items ++ leaving_in new.link new.waiting
+    pub fates : leaving left old.waiters ≡ flat_map left_in items ++ leaving_in new.link new.waiters
 
 pub leaves : (old new : PipeState) (items : List PipeItem) (left : Fates) → old.link ≡ Shut left
     → Lead IsPipeStep old items new → Leaves old left items new
@@ -45,12 +45,12 @@ leaves old new [] left e same = record {
   was_shut = refl;
   wrote = refl;
   got = refl;
-  queue = sym (ap (λ (s : PipeState). s.waiting) same);
+  queue = sym (ap (λ (s : PipeState). s.waiters) same);
   unwritten = ap (λ (s : PipeState). s.unwritten) same;
   unread = ap (λ (s : PipeState). s.unread) same;
   heard = ap (λ (s : PipeState). s.heard) same;
-  fates = sym (ap (λ (s : PipeState). leaving_in s.link s.waiting) same
-      ∙ ap (λ (l : Link). leaving_in l old.waiting) e);
+  fates = sym (ap (λ (s : PipeState). leaving_in s.link s.waiters) same
+      ∙ ap (λ (l : Link). leaving_in l old.waiters) e);
 }
 leaves old new (Left it ∷ items) left e (mid, step, more) =
     let same : step.left ≡ left = let both : Shut step.left ≡ Shut left = sym step.shut ∙ e in cc in
@@ -74,8 +74,8 @@ leaves old new (Left it ∷ items) left e (mid, step, more) =
       unread = rest.unread ∙ ap (λ (s : PipeState). s.unread) step.state;
       heard = rest.heard ∙ ap (λ (s : PipeState). heard_after s.heard items) step.state;
       fates = ap (leaving left) step.first
-          ∙ leaving_first left it.waiter mid.waiting
-          ∙ ap (λ (l : Leaving). l ∷ leaving (record left { first = None }) mid.waiting) (sym is_it)
+          ∙ leaving_first left it.waiter mid.waiters
+          ∙ ap (λ (l : Leaving). l ∷ leaving (record left { first = None }) mid.waiters) (sym is_it)
           ∙ ap (λ (xs : List Leaving). it ∷ xs) rest.fates;
     }
 leaves old new (WasConnected ∷ items) left e (mid, step, more) =

@@ -18,21 +18,21 @@ use Rattle.tko_pipe.proofs.LeavingLemmas.{leaves}
 
 -- what the items lead to, from a connection that was not shut
 record Leads (old : PipeState) (items : List PipeItem) (new : PipeState) : Type 0 where
-  queue : old.waiting ++ askers_in items
-      ≡ answered_in items ++ unanswered_in items ++ new.waiting
+  queue : old.waiters ++ askers_in items
+      ≡ answered_in items ++ unanswered_in items ++ new.waiters
   written : old.unwritten ++ texts_in items
       ≡ written_in items ++ unwritten_dropped items ++ new.unwritten
   read : old.unread ++ bytes_read_in items ≡ responses_in items ++ unread_dropped items ++ new.unread
   answers : All IsTakenResponse (flat_map took_in items)
-  asked_first : length old.unwritten ≤ lengths_of old.waiting
+  asked_first : length old.unwritten ≤ lengths_of old.waiters
       → lengths_of (answered_in items) + length old.unwritten
-      ≤ length (written_in items) + lengths_of old.waiting
+      ≤ length (written_in items) + lengths_of old.waiters
   heard : new.heard ≡ heard_after old.heard items
   end : IsLive new.link ⊎ IsEnd old items new
 
 leads_none : (old new : PipeState) → IsLive old.link → new ≡ old → Leads old [] new
 leads_none old new live e = record {
-  queue = append-nil old.waiting ∙ sym (ap (λ (s : PipeState). s.waiting) e);
+  queue = append-nil old.waiters ∙ sym (ap (λ (s : PipeState). s.waiters) e);
   written = append-nil old.unwritten ∙ sym (ap (λ (s : PipeState). s.unwritten) e);
   read = append-nil old.unread ∙ sym (ap (λ (s : PipeState). s.unread) e);
   answers = All-nil IsTakenResponse;
@@ -78,13 +78,13 @@ leads old new (WasConnected ∷ items) live (mid, step, more) =
     (subst (λ (s : PipeState). IsLive s.link) (sym step.state) tt) more in
     let same = step.state in
     record {
-      queue = ap (λ (s : PipeState). s.waiting ++ askers_in items) (sym same) ∙ rest.queue;
+      queue = ap (λ (s : PipeState). s.waiters ++ askers_in items) (sym same) ∙ rest.queue;
       written = ap (λ (s : PipeState). s.unwritten ++ texts_in items) (sym same) ∙ rest.written;
       read = ap (λ (s : PipeState). s.unread ++ bytes_read_in items) (sym same) ∙ rest.read;
       answers = rest.answers;
-      asked_first = subst (λ (s : PipeState). length s.unwritten ≤ lengths_of s.waiting
+      asked_first = subst (λ (s : PipeState). length s.unwritten ≤ lengths_of s.waiters
           → lengths_of (answered_in items) + length s.unwritten
-          ≤ length (written_in items) + lengths_of s.waiting) same rest.asked_first;
+          ≤ length (written_in items) + lengths_of s.waiters) same rest.asked_first;
       heard = rest.heard ∙ ap (λ (s : PipeState). heard_after s.heard items) same;
       end = end_after old mid new WasConnected items step rest.end;
     }
@@ -92,26 +92,26 @@ leads old new (Pushed it ∷ items) live (mid, step, more) =
     let rest = leads mid new items
     (subst (λ (s : PipeState). IsLive s.link) (sym step.state) live) more in
     let text = request_text it.request in
-    let waiting : mid.waiting ≡ old.waiting ++ it.waiter ∷ [] =
-    ap (λ (s : PipeState). s.waiting) step.state in
+    let waiters : mid.waiters ≡ old.waiters ++ it.waiter ∷ [] =
+    ap (λ (s : PipeState). s.waiters) step.state in
     let unwritten : mid.unwritten ≡ old.unwritten ++ text =
     ap (λ (s : PipeState). s.unwritten) step.state in
     let one_length : lengths_of (it.waiter ∷ []) ≡ it.waiter.len =
     omega (arith, sum_by-cons (λ (one : Waiter). one.len) it.waiter []) in
-    let lengths : lengths_of mid.waiting ≡ lengths_of old.waiting + it.waiter.len =
-    ap lengths_of waiting ∙ sum_by-append (λ one. one.len) old.waiting (it.waiter ∷ [])
-    ∙ ap (λ n. lengths_of old.waiting + n) one_length in
+    let lengths : lengths_of mid.waiters ≡ lengths_of old.waiters + it.waiter.len =
+    ap lengths_of waiters ∙ sum_by-append (λ one. one.len) old.waiters (it.waiter ∷ [])
+    ∙ ap (λ n. lengths_of old.waiters + n) one_length in
     let len : length mid.unwritten ≡ length old.unwritten + length text =
     ap length unwritten ∙ length-append old.unwritten text in
     record {
-      queue = sym (append_assoc old.waiting (it.waiter ∷ []) (askers_in items))
-          ∙ ap (λ (w : List Waiter). w ++ askers_in items) (sym waiting) ∙ rest.queue;
+      queue = sym (append_assoc old.waiters (it.waiter ∷ []) (askers_in items))
+          ∙ ap (λ (w : List Waiter). w ++ askers_in items) (sym waiters) ∙ rest.queue;
       written = sym (append_assoc old.unwritten text (texts_in items))
           ∙ ap (λ (w : List ℕ). w ++ texts_in items) (sym unwritten) ∙ rest.written;
       read = ap (λ (s : PipeState). s.unread ++ bytes_read_in items) (sym step.state) ∙ rest.read;
       answers = rest.answers;
       asked_first = λ within.
-          let now_within : length mid.unwritten ≤ lengths_of mid.waiting =
+          let now_within : length mid.unwritten ≤ lengths_of mid.waiters =
           omega (arith, within, lengths, len, step.len) in
           omega (arith, rest.asked_first now_within, lengths, len, step.len);
       heard = rest.heard ∙ ap (λ (s : PipeState). heard_after s.heard items) step.state;
@@ -120,13 +120,13 @@ leads old new (Pushed it ∷ items) live (mid, step, more) =
 leads old new (Wrote bytes ∷ items) live (mid, step, more) =
     let rest = leads mid new items
     (subst (λ (s : PipeState). IsLive s.link) (sym step.state) live) more in
-    let waiting : mid.waiting ≡ old.waiting = ap (λ (s : PipeState). s.waiting) step.state in
+    let waiters : mid.waiters ≡ old.waiters = ap (λ (s : PipeState). s.waiters) step.state in
     let len : length old.unwritten ≡ length bytes + length mid.unwritten =
     ap length step.front ∙ length-append bytes mid.unwritten in
     let wrote : length (bytes ++ written_in items) ≡ length bytes + length (written_in items) =
     length-append bytes (written_in items) in
     record {
-      queue = ap (λ (w : List Waiter). w ++ askers_in items) (sym waiting) ∙ rest.queue;
+      queue = ap (λ (w : List Waiter). w ++ askers_in items) (sym waiters) ∙ rest.queue;
       written = ap (λ (w : List ℕ). w ++ texts_in items) step.front
           ∙ append_assoc bytes mid.unwritten (texts_in items)
           ∙ ap (λ (w : List ℕ). bytes ++ w) rest.written
@@ -134,8 +134,8 @@ leads old new (Wrote bytes ∷ items) live (mid, step, more) =
       read = ap (λ (s : PipeState). s.unread ++ bytes_read_in items) (sym step.state) ∙ rest.read;
       answers = rest.answers;
       asked_first = λ within.
-          let lengths : lengths_of mid.waiting ≡ lengths_of old.waiting = ap lengths_of waiting in
-          let now_within : length mid.unwritten ≤ lengths_of mid.waiting =
+          let lengths : lengths_of mid.waiters ≡ lengths_of old.waiters = ap lengths_of waiters in
+          let now_within : length mid.unwritten ≤ lengths_of mid.waiters =
           omega (arith, within, lengths, len) in
           omega (arith, rest.asked_first now_within, lengths, len, wrote);
       heard = rest.heard ∙ ap (λ (s : PipeState). heard_after s.heard items) step.state;
@@ -147,14 +147,14 @@ leads old new (Got bytes now ∷ items) live (mid, step, more) =
     let same = step.state in
     let unread : mid.unread ≡ old.unread ++ bytes = ap (λ (s : PipeState). s.unread) same in
     record {
-      queue = ap (λ (s : PipeState). s.waiting ++ askers_in items) (sym same) ∙ rest.queue;
+      queue = ap (λ (s : PipeState). s.waiters ++ askers_in items) (sym same) ∙ rest.queue;
       written = ap (λ (s : PipeState). s.unwritten ++ texts_in items) (sym same) ∙ rest.written;
       read = sym (append_assoc old.unread bytes (bytes_read_in items))
           ∙ ap (λ (w : List ℕ). w ++ bytes_read_in items) (sym unread) ∙ rest.read;
       answers = rest.answers;
-      asked_first = subst (λ (s : PipeState). length s.unwritten ≤ lengths_of s.waiting
+      asked_first = subst (λ (s : PipeState). length s.unwritten ≤ lengths_of s.waiters
           → lengths_of (answered_in items) + length s.unwritten
-          ≤ length (written_in items) + lengths_of s.waiting) same rest.asked_first;
+          ≤ length (written_in items) + lengths_of s.waiters) same rest.asked_first;
       heard = rest.heard ∙ ap (λ (s : PipeState). heard_after s.heard items) same;
       end = end_after old mid new (Got bytes now) items step rest.end;
     }
@@ -163,8 +163,8 @@ leads old new (Took it ∷ items) live (mid, step, more) =
     (subst (λ (s : PipeState). IsLive s.link) (sym step.state) live) more in
     let unwritten : mid.unwritten ≡ old.unwritten =
     ap (λ (s : PipeState). s.unwritten) step.state in
-    let lengths : lengths_of old.waiting ≡ it.waiter.len + lengths_of mid.waiting =
-    ap lengths_of step.first ∙ sum_by-cons (λ one. one.len) it.waiter mid.waiting in
+    let lengths : lengths_of old.waiters ≡ it.waiter.len + lengths_of mid.waiters =
+    ap lengths_of step.first ∙ sum_by-cons (λ one. one.len) it.waiter mid.waiters in
     let answered : lengths_of (it.waiter ∷ answered_in items)
     ≡ it.waiter.len + lengths_of (answered_in items) =
     sum_by-cons (λ one. one.len) it.waiter (answered_in items) in
@@ -179,7 +179,7 @@ leads old new (Took it ∷ items) live (mid, step, more) =
           ∙ to_front it.bytes (responses_in items) (unread_dropped items) new.unread;
       answers = All-cons IsTakenResponse it (flat_map took_in items) step.response rest.answers;
       asked_first = λ within.
-          let now_within : length mid.unwritten ≤ lengths_of mid.waiting =
+          let now_within : length mid.unwritten ≤ lengths_of mid.waiters =
           omega (arith, step.written, len) in
           omega (arith, rest.asked_first now_within, lengths, answered, len);
       heard = rest.heard ∙ ap (λ (s : PipeState). heard_after s.heard items) step.state;
@@ -188,9 +188,9 @@ leads old new (Took it ∷ items) live (mid, step, more) =
 leads old new (WasShut it ∷ items) live (mid, step, more) =
     let rest = leaves mid new items (fates_of old.link it.cause)
     (ap (λ (s : PipeState). s.link) step.state) more in
-    let waiting : mid.waiting ≡ old.waiting = ap (λ (s : PipeState). s.waiting) step.state in
+    let waiters : mid.waiters ≡ old.waiters = ap (λ (s : PipeState). s.waiters) step.state in
     record {
-      queue = rw (rest.pushed, rest.took) (append-nil old.waiting ∙ sym waiting ∙ rest.queue);
+      queue = rw (rest.pushed, rest.took) (append-nil old.waiters ∙ sym waiters ∙ rest.queue);
       written = all_dropped old.unwritten it.unwritten (texts_in items) (written_in items)
           (unwritten_dropped items) new.unwritten
           (ap (λ xs. flat_map (λ one. request_text one.request) xs) rest.pushed) rest.wrote
@@ -216,7 +216,7 @@ leads old new (WasShut it ∷ items) live (mid, step, more) =
         leads = gains_none old;
         live = live;
         cause = step.cause;
-        fates = ap (leaving (fates_of old.link it.cause)) (sym waiting) ∙ rest.fates;
+        fates = ap (leaving (fates_of old.link it.cause)) (sym waiters) ∙ rest.fates;
       });
     }
 leads old new (Left it ∷ items) live (mid, step, more) = absurd (subst IsLive step.shut live)

@@ -50,18 +50,18 @@ checked false mid link unwritten unread connected a b c =
 -- the first that waited was answered
 pub answered : (p old : PipeState) (request : Request) (waiter : Waiter) (others : List Waiter)
     (response : Response) (left : List ℕ) (link : Link) (unwritten unread : List ℕ)
-    → p ≡ old → p.link ≡ Connected → p.waiting ≡ waiter ∷ others → p.unread ≢ []
-    → is_asked p.unread p.waiting p.unwritten ≡ true
+    → p ≡ old → p.link ≡ Connected → p.waiters ≡ waiter ∷ others → p.unread ≢ []
+    → is_asked p.unread p.waiters p.unwritten ≡ true
     → IsFront request p.unread response left
     → link ≡ (if is_asked left others p.unwritten
     then p.link else Shut (fates_of p.link Unasked))
     → unwritten ≡ (if is_asked left others p.unwritten then p.unwritten else [])
     → unread ≡ (if is_asked left others p.unwritten then left else [])
     → IsFirstAnswered old request waiter.by response
-    (record p { link = link; waiting = others; unwritten = unwritten; unread = unread })
-answered p old request waiter others response left link unwritten unread same connected waiting
+    (record p { link = link; waiters = others; unwritten = unwritten; unread = unread })
+answered p old request waiter others response left link unwritten unread same connected waiters
     some asked front a b c =
-    let mid : PipeState = record p { waiting = others; unread = left } in
+    let mid : PipeState = record p { waiters = others; unread = left } in
     let it : Taking = record {
       waiter = waiter;
       request = request;
@@ -70,10 +70,10 @@ answered p old request waiter others response left link unwritten unread same co
     } in
     let new = record mid { link = link; unwritten = unwritten; unread = unread } in
     let first_asked : is_asked p.unread (waiter ∷ others) p.unwritten ≡ true =
-    subst (λ (w : List Waiter). is_asked p.unread w p.unwritten ≡ true) waiting asked in
+    subst (λ (w : List Waiter). is_asked p.unread w p.unwritten ≡ true) waiters asked in
     let taken : IsTaken p it mid = record {
       connected = connected;
-      first = waiting;
+      first = waiters;
       written = first_written p.unread waiter others p.unwritten some first_asked;
       front = front.whole;
       response = front.is_response;
@@ -93,12 +93,12 @@ answered p old request waiter others response left link unwritten unread same co
 -- the first of those that are left leaves
 pub left_first : (p old : PipeState) (left next_fates : Fates) (waiter : Waiter)
     (others : List Waiter) (came : Fate)
-    → p ≡ old → p.link ≡ Shut left → p.waiting ≡ waiter ∷ others
+    → p ≡ old → p.link ≡ Shut left → p.waiters ≡ waiter ∷ others
     → came ≡ fate_at left waiter.due → next_fates ≡ record left { first = None }
-    → IsLeaving old waiter.by came (record p { waiting = others; link = Shut next_fates })
-left_first p old left next_fates waiter others came same shut waiting is_fate is_next =
+    → IsLeaving old waiter.by came (record p { waiters = others; link = Shut next_fates })
+left_first p old left next_fates waiter others came same shut waiters is_fate is_next =
     let it : Leaving = record { waiter = waiter; came = came } in
-    let new = record p { waiting = others; link = Shut next_fates } in
+    let new = record p { waiters = others; link = Shut next_fates } in
     let is : IsLeaving p waiter.by came new = record {
       it = it;
       is_by = refl;
@@ -106,9 +106,9 @@ left_first p old left next_fates waiter others came same shut waiting is_fate is
       left = record {
         left = left;
         shut = shut;
-        first = waiting;
+        first = waiters;
         came = is_fate;
-        state = ap (λ (l : Fates). record p { waiting = others; link = Shut l }) is_next;
+        state = ap (λ (l : Fates). record p { waiters = others; link = Shut l }) is_next;
       };
     } in
     subst (λ (s : PipeState). IsLeaving s waiter.by came new) same is

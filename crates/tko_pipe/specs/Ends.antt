@@ -18,7 +18,7 @@ use Rattle.tko_pipe.specs.Pipes.{IsGot, IsLeft, IsShut, IsTaken, PipeState, is_a
 abbrev pub GotEnds : PipeState → List ℕ → ℕ → Result Unit ShutCause → PipeState → Type 0
 GotEnds old bytes now (Ok done) new = IsGot old bytes now new
 GotEnds old bytes now (Err Unasked) new =
-    (is_first_written old.waiting old.unwritten ≡ false) × IsShut old (shutting old Unasked) new
+    (is_first_written old.waiters old.unwritten ≡ false) × IsShut old (shutting old Unasked) new
 GotEnds old bytes now (Err Memory) new = IsShut old (shutting old Memory) new
 GotEnds old bytes now (Err _) new = ⊥
 
@@ -37,7 +37,7 @@ pub record IsFirstAnswered (old : PipeState) (request : Request) (by : Asker) (r
   pub is_by : by ≡ waiter.by
   pub taken : IsTaken old
       (record { waiter = waiter; request = request; response = response; bytes = bytes }) mid
-  pub checked : IsChecked (is_asked mid.unread mid.waiting mid.unwritten) mid new
+  pub checked : IsChecked (is_asked mid.unread mid.waiters mid.unwritten) mid new
 
 -- after a take: the first was answered; or its response has not come yet; or the connection was
 -- shut, since no response to this request came, or since there was no memory for it
@@ -60,7 +60,7 @@ IsLateAt now _ = ⊥
 
 -- whether the first response is late at this moment: if it is, the connection was shut
 abbrev pub ExpireEnds : PipeState → ℕ → Option ShutCause → PipeState → Type 0
-ExpireEnds old now None new = (is_late old.waiting now ≡ false) × (new ≡ old)
+ExpireEnds old now None new = (is_late old.waiters now ≡ false) × (new ≡ old)
 ExpireEnds old now (Some cause) new = IsLateAt now cause × IsShut old (shutting old cause) new
 
 -- the first of those whose connection was shut left with this fate
@@ -72,5 +72,5 @@ pub record IsLeaving (old : PipeState) (by : Asker) (came : Fate) (new : PipeSta
 
 -- the next that leaves, or none
 abbrev pub LeaveEnds : PipeState → Option (Asker × Fate) → PipeState → Type 0
-LeaveEnds old None new = (leaving_in old.link old.waiting ≡ []) × (new ≡ old)
+LeaveEnds old None new = (leaving_in old.link old.waiters ≡ []) × (new ≡ old)
 LeaveEnds old (Some next) new = IsLeaving old next.0 next.1 new

@@ -51,8 +51,8 @@ pub record Leaving : Type 0 where
 
 -- those that follow the first, each with its fate
 abbrev pub leaving_behind : Behind → List Waiter → List Leaving
-leaving_behind behind waiting =
-    map (λ it. record { waiter = it; came = fate_behind behind it.due }) waiting
+leaving_behind behind waiters =
+    map (λ it. record { waiter = it; came = fate_behind behind it.due }) waiters
 
 -- those that are left, in order, each with its fate
 abbrev pub leaving : Fates → List Waiter → List Leaving

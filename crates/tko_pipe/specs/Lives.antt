@@ -95,9 +95,9 @@ IsTakenResponse it = IsResponse it.request it.bytes it.response
 
 -- those that a connection that was shut still leaves
 abbrev pub leaving_in : Link → List Waiter → List Leaving
-leaving_in Connecting waiting = []
-leaving_in Connected waiting = []
-leaving_in (Shut left) waiting = leaving left waiting
+leaving_in Connecting waiters = []
+leaving_in Connected waiters = []
+leaving_in (Shut left) waiters = leaving left waiters
 
 -- the connection was shut once, as it was then; after that those that waited leave, with the fates
 -- of the table, and nothing else happens
@@ -110,13 +110,13 @@ pub record IsEnd (first : PipeState) (items : List PipeItem) (state : PipeState)
   pub leads : Gains IsPipeStep first before last
   pub live : IsLive last.link
   pub cause : IsCause last it.cause
-  pub fates : leaving (fates_of last.link it.cause) last.waiting
-      ≡ left ++ leaving_in state.link state.waiting
+  pub fates : leaving (fates_of last.link it.cause) last.waiters
+      ≡ left ++ leaving_in state.link state.waiters
 
 -- What the items of a connection mean that is now in this state.
 pub record IsLife (limit : ℕ) (items : List PipeItem) (state : PipeState) : Type 0 where
   -- the k-th that asked was answered, left, or waits as the k-th
-  pub queue : askers_in items ≡ answered_in items ++ unanswered_in items ++ state.waiting
+  pub queue : askers_in items ≡ answered_in items ++ unanswered_in items ++ state.waiters
   -- what was written is a beginning of the requests' texts; the rest waits or was dropped
   pub written : texts_in items ≡ written_in items ++ unwritten_dropped items ++ state.unwritten
   -- what was read are the responses' bytes, one after another, and bytes of which none was taken

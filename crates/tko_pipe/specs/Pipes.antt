@@ -19,7 +19,7 @@ use Rattle.tko_pipe.specs.Fates.{Leaving, fate_at, fates_of}
 pub record PipeState : Type 0 where
   pub limit : ℕ
   pub link : Link
-  pub waiting : List Waiter
+  pub waiters : List Waiter
   pub unwritten : List ℕ
   pub unread : List ℕ
   pub heard : Option ℕ
@@ -29,7 +29,7 @@ abbrev pub opened_pipe : ℕ → PipeState
 opened_pipe limit = record {
   limit = limit;
   link = Connecting;
-  waiting = [];
+  waiters = [];
   unwritten = [];
   unread = [];
   heard = None;
@@ -49,7 +49,7 @@ MayBeUnread (Shut left) unread = unread ≡ []
 
 -- how long the texts of those that wait are
 abbrev pub lengths_of : List Waiter → ℕ
-lengths_of waiting = sum_by (λ it. it.len) waiting
+lengths_of waiters = sum_by (λ it. it.len) waiters
 
 -- the first request was written wholly: what is unwritten are the texts of those that follow it
 abbrev pub is_first_written : List Waiter → List ℕ → Bool
@@ -58,8 +58,8 @@ is_first_written (first ∷ others) unwritten = nat_le (length unwritten) (lengt
 
 -- whether somebody can have asked for these bytes
 abbrev pub is_asked : List ℕ → List Waiter → List ℕ → Bool
-is_asked [] waiting unwritten = true
-is_asked (byte ∷ bytes) waiting unwritten = is_first_written waiting unwritten
+is_asked [] waiters unwritten = true
+is_asked (byte ∷ bytes) waiters unwritten = is_first_written waiters unwritten
 
 -- the first response is late at this moment
 abbrev pub is_late : List Waiter → ℕ → Bool
@@ -74,9 +74,9 @@ is_silent (Some heard) limit now = nat_le limit (now - heard)
 -- a connection can be shut for this cause. Of most causes only the caller knows whether they are so
 abbrev pub IsCause : PipeState → ShutCause → Type 0
 IsCause state (Silent now) =
-    (is_late state.waiting now ≡ true) × (is_silent state.heard state.limit now ≡ true)
+    (is_late state.waiters now ≡ true) × (is_silent state.heard state.limit now ≡ true)
 IsCause state (Late now) =
-    (is_late state.waiting now ≡ true) × (is_silent state.heard state.limit now ≡ false)
+    (is_late state.waiters now ≡ true) × (is_silent state.heard state.limit now ≡ false)
 IsCause state _ = Unit {0}
 
 -- who waits, and for what
@@ -114,7 +114,7 @@ pub record IsPushed (old : PipeState) (it : Pushing) (new : PipeState) : Type 0 
   pub live : IsLive old.link
   pub len : it.waiter.len ≡ length (request_text it.request)
   pub state : new ≡ record old {
-    waiting = old.waiting ++ it.waiter ∷ [];
+    waiters = old.waiters ++ it.waiter ∷ [];
     unwritten = old.unwritten ++ request_text it.request;
   }
 
@@ -127,18 +127,18 @@ pub record IsWritten (old : PipeState) (bytes : List ℕ) (new : PipeState) : Ty
 -- these bytes came at this moment
 pub record IsGot (old : PipeState) (bytes : List ℕ) (now : ℕ) (new : PipeState) : Type 0 where
   pub connected : old.link ≡ Connected
-  pub asked : is_first_written old.waiting old.unwritten ≡ true
+  pub asked : is_first_written old.waiters old.unwritten ≡ true
   pub state : new ≡ record old { unread = old.unread ++ bytes; heard = Some now }
 
 -- the first that waited had its request written wholly, and the response to this request was at the
 -- front
 pub record IsTaken (old : PipeState) (it : Taking) (new : PipeState) : Type 0 where
   pub connected : old.link ≡ Connected
-  pub first : old.waiting ≡ it.waiter ∷ new.waiting
-  pub written : length old.unwritten ≤ lengths_of new.waiting
+  pub first : old.waiters ≡ it.waiter ∷ new.waiters
+  pub written : length old.unwritten ≤ lengths_of new.waiters
   pub front : old.unread ≡ it.bytes ++ new.unread
   pub response : IsResponse it.request it.bytes it.response
-  pub state : new ≡ record old { waiting = new.waiting; unread = new.unread }
+  pub state : new ≡ record old { waiters = new.waiters; unread = new.unread }
 
 -- the connection as this cause leaves it
 abbrev pub shut_by : PipeState → ShutCause → PipeState
@@ -162,9 +162,9 @@ pub record IsShut (old : PipeState) (it : Shutting) (new : PipeState) : Type 0 w
 pub record IsLeft (old : PipeState) (it : Leaving) (new : PipeState) : Type 0 where
   pub left : Fates
   pub shut : old.link ≡ Shut left
-  pub first : old.waiting ≡ it.waiter ∷ new.waiting
+  pub first : old.waiters ≡ it.waiter ∷ new.waiters
   pub came : it.came ≡ fate_at left it.waiter.due
   pub state : new ≡ record old {
-    waiting = new.waiting;
+    waiters = new.waiters;
     link = Shut (record left { first = None });
   }

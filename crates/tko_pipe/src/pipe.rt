@@ -24,7 +24,7 @@ pub struct Pipe {
     limit: u64,
     link: Link,
     /// Whose responses have not come, first come first.
-    waiting: VecDeque<Waiter>,
+    waiters: VecDeque<Waiter>,
     /// How long the texts of all their requests are.
     queued: usize,
     unwritten: ByteQueue,
@@ -42,14 +42,14 @@ impl Model for Pipe {
     ghost view = { λ p. record {
       limit = p.limit;
       link = p.link;
-      waiting = p.waiting.items;
+      waiters = p.waiters.items;
       unwritten = p.unwritten;
       unread = p.unread;
       heard = p.heard;
     } };
 
-    ghost invariant = { λ p. (p.queued ≡ lengths_of p.waiting.items)
-        × (is_asked p.unread p.waiting.items p.unwritten ≡ true)
+    ghost invariant = { λ p. (p.queued ≡ lengths_of p.waiters.items)
+        × (is_asked p.unread p.waiters.items p.unwritten ≡ true)
         × MayBeUnread p.link p.unread };
 }
 
@@ -61,7 +61,7 @@ impl Pipe {
         Pipe {
             limit,
             link: Link::Connecting,
-            waiting: VecDeque::new(alloc),
+            waiters: VecDeque::new(alloc),
             queued: 0,
             unwritten: ByteQueue::new(alloc),
             unread: ByteQueue::new(alloc),
@@ -98,7 +98,7 @@ impl Pipe {
             self.unwritten.truncate(before);
             return Err(NoMemory);
         };
-        if self.waiting.push_back(Waiter { by, due, len }).is_err() {
+        if self.waiters.push_back(Waiter { by, due, len }).is_err() {
             self.unwritten.truncate(before);
             return Err(NoMemory);
         }
@@ -129,7 +129,7 @@ impl Pipe {
         requires some { 0 < length bytes.now }
         ensures { GotEnds self.old bytes.now now result self.new }
     {
-        if !is_first_written(&self.waiting, self.queued, self.unwritten.len()) {
+        if !is_first_written(&self.waiters, self.queued, self.unwritten.len()) {
             self.shut(ShutCause::Unasked);
             return Err(ShutCause::Unasked);
         }
@@ -143,9 +143,9 @@ impl Pipe {
 
     /// Who waits for the next response, or is the next to leave.
     pub fn first(&self) -> Option<&Waiter>
-        ensures { option_copied result ≡ slice_get self.now.waiting 0 }
+        ensures { option_copied result ≡ slice_get self.now.waiters 0 }
     {
-        self.waiting.front()
+        self.waiters.front()
     }
 
     /// The response to the first request, which is lent, as soon as all of it was read. An `Err`
@@ -175,7 +175,7 @@ impl Pipe {
         requires { self.old.link ≡ Link.Connected }
         ensures { TakeEnds self.old request.now result self.new }
     {
-        let Some(first) = self.waiting.front() else {
+        let Some(first) = self.waiters.front() else {
             return Ok(None);
         };
         let (by, len) = (first.by, first.len);
@@ -184,11 +184,11 @@ impl Pipe {
         }
         match self.unread.take_response(alloc, request) {
             Ok(response) => {
-                self.waiting.pop_front();
+                self.waiters.pop_front();
                 self.queued -= len;
                 drop_unasked(
                     &mut self.link,
-                    &self.waiting,
+                    &self.waiters,
                     self.queued,
                     &mut self.unwritten,
                     &mut self.unread,
@@ -213,7 +213,7 @@ impl Pipe {
         requires { IsLive self.old.link }
         ensures { ExpireEnds self.old now result self.new }
     {
-        let due = self.waiting.front()?.due;
+        let due = self.waiters.front()?.due;
         if due > now {
             return None;
         }
@@ -245,7 +245,7 @@ impl Pipe {
         let Link::Shut(fates) = self.link else {
             return None;
         };
-        let waiter = self.waiting.pop_front()?;
+        let waiter = self.waiters.pop_front()?;
         self.queued -= waiter.len;
         self.link = Link::Shut(fates.without_first());
         Some((waiter.by, fates.fate(waiter.due)))
@@ -254,12 +254,12 @@ impl Pipe {
 
 /// Whether the text of the first request was written wholly, where the texts of all requests have
 /// the one length and what is not written of them has the other.
-fn is_first_written(waiting: &VecDeque<Waiter>, queued: usize, unwritten: usize) -> bool
-    requires { queued ≡ lengths_of waiting.now.items }
+fn is_first_written(waiters: &VecDeque<Waiter>, queued: usize, unwritten: usize) -> bool
+    requires { queued ≡ lengths_of waiters.now.items }
     ensures { (unsent : List ℕ) → unwritten ≡ length unsent
-        → result ≡ is_first_written waiting.now.items unsent }
+        → result ≡ is_first_written waiters.now.items unsent }
 {
-    match waiting.front() {
+    match waiters.front() {
         Some(first) => unwritten <= queued - first.len,
         None => false,
     }
@@ -268,33 +268,33 @@ fn is_first_written(waiting: &VecDeque<Waiter>, queued: usize, unwritten: usize)
 /// Whether somebody can have asked for the bytes that are unread.
 fn is_asked(
     unread: &ByteQueue,
-    waiting: &VecDeque<Waiter>,
+    waiters: &VecDeque<Waiter>,
     queued: usize,
     unwritten: &ByteQueue,
 ) -> bool
-    requires { queued ≡ lengths_of waiting.now.items }
-    ensures { result ≡ is_asked unread.now waiting.now.items unwritten.now }
+    requires { queued ≡ lengths_of waiters.now.items }
+    ensures { result ≡ is_asked unread.now waiters.now.items unwritten.now }
 {
-    unread.is_empty() || is_first_written(waiting, queued, unwritten.len())
+    unread.is_empty() || is_first_written(waiters, queued, unwritten.len())
 }
 
 /// Shuts the connection if bytes are unread that nobody asked for.
 fn drop_unasked(
     link: &mut Link,
-    waiting: &VecDeque<Waiter>,
+    waiters: &VecDeque<Waiter>,
     queued: usize,
     unwritten: &mut ByteQueue,
     unread: &mut ByteQueue,
 )
-    requires { queued ≡ lengths_of waiting.now.items }
-    ensures link { link.new ≡ (if is_asked unread.old waiting.now.items unwritten.old
+    requires { queued ≡ lengths_of waiters.now.items }
+    ensures link { link.new ≡ (if is_asked unread.old waiters.now.items unwritten.old
         then link.old else Link.Shut (fates_of link.old ShutCause.Unasked)) }
-    ensures unwritten { unwritten.new ≡ (if is_asked unread.old waiting.now.items unwritten.old
+    ensures unwritten { unwritten.new ≡ (if is_asked unread.old waiters.now.items unwritten.old
         then unwritten.old else []) }
-    ensures unread { unread.new ≡ (if is_asked unread.old waiting.now.items unwritten.old
+    ensures unread { unread.new ≡ (if is_asked unread.old waiters.now.items unwritten.old
         then unread.old else []) }
 {
-    if is_asked(unread, waiting, queued, unwritten) {
+    if is_asked(unread, waiters, queued, unwritten) {
         return;
     }
     *link = Link::Shut(Fates::of(*link, ShutCause::Unasked));

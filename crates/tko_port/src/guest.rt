@@ -137,8 +137,8 @@ impl<P, L: Port, T: Talking<P>> Asking<SharedParts<P>> for Guest<L, T> {
         )
     }
 
-    fn is_waiting(&self) -> bool {
-        self.talk.is_waiting()
+    fn is_asking(&self) -> bool {
+        self.talk.is_asking()
     }
 
     fn request(&self) -> &Request {

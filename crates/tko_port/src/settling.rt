@@ -110,7 +110,7 @@ fn serve_here<P, L: Port, T: Talking<P>>(
     ensures ready { LeavesReady T.ready T.stays result parts.old parts.new (L.port port.new)
         talk.new }
 {
-    if !talk.is_waiting() {
+    if !talk.is_asking() {
         return serve_idle(port, talk, parts, buffer);
     }
     match talk.stage() {

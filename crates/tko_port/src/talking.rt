@@ -145,7 +145,7 @@ pub trait Talking<P> {
         ensures stays { stays parts.old parts.new };
 
     /// Whether a request of it is under way.
-    fn is_waiting(&self) -> bool
+    fn is_asking(&self) -> bool
         ensures some { OnTrue result (awaited self.now ≢ []) }
         ensures none { OnFalse result (awaited self.now ≡ []) };
 

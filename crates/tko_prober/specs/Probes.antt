@@ -7,18 +7,18 @@ use Rattle.tko_prober.specs.declared.prober.Probed.{Probed}
 use Rattle.tko_prober.specs.declared.prober.Probed.TheVariants.{Answered, Refused, Failed}
 use Rattle.tko_prober.specs.declared.prober.Prober.{Prober}
 use Rattle.tko_prober.specs.declared.prober.ProberStage.{ProberStage}
-use Rattle.tko_prober.specs.declared.prober.ProberStage.TheVariants.{Waiting, Out, Ended}
+use Rattle.tko_prober.specs.declared.prober.ProberStage.TheVariants.{Resting, Out, Ended}
 use Rattle.tko_io.specs.Io.{capped}
 use Rattle.tko_prober.specs.Delay.{due_after}
 
 -- a prober that began at this moment: its first probe is due after the first delay
 abbrev pub begun_prober : Delays → ℕ → Prober
 begun_prober delays now =
-    record { delays = delays; results = 0; stage = Waiting (capped (now + delays.first)) }
+    record { delays = delays; results = 0; stage = Resting (capped (now + delays.first)) }
 
 -- a probe is to be sent at this moment
 abbrev pub IsDue : ProberStage → ℕ → Type 0
-IsDue (Waiting due) now = due ≤ now
+IsDue (Resting due) now = due ≤ now
 IsDue Out now = ⊥
 IsDue Ended now = ⊥
 
@@ -40,7 +40,7 @@ asked_after Failed = Again
 abbrev pub delayed : Prober → ℕ → Prober
 delayed prober now =
     let results = capped (prober.results + 1) in
-    record prober { results = results; stage = Waiting (due_after prober.delays results now) }
+    record prober { results = results; stage = Resting (due_after prober.delays results now) }
 
 -- the prober after this result of its probe
 abbrev pub with_result : Prober → ℕ → Probed → Prober

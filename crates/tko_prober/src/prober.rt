@@ -10,7 +10,7 @@ use crate::Delays;
 pub enum ProberStage {
     /// No probe is out, and the next one is due at this moment, in milliseconds of the caller's
     /// clock.
-    Waiting(u64),
+    Resting(u64),
     /// A probe is out.
     Out,
     /// The server recovered or the prober was stopped: it never probes again.
@@ -64,7 +64,7 @@ impl Prober {
         Prober {
             delays,
             results: 0,
-            stage: ProberStage::Waiting(due(delays, 0, now)),
+            stage: ProberStage::Resting(due(delays, 0, now)),
         }
     }
 
@@ -76,11 +76,11 @@ impl Prober {
         ensures rest { result ≡ ProbeTurn.Rest → self.new ≡ self.old }
     {
         match self.stage {
-            ProberStage::Waiting(moment) if moment <= now => {
+            ProberStage::Resting(moment) if moment <= now => {
                 self.stage = ProberStage::Out;
                 ProbeTurn::Send
             }
-            ProberStage::Waiting(_) | ProberStage::Out | ProberStage::Ended => ProbeTurn::Rest,
+            ProberStage::Resting(_) | ProberStage::Out | ProberStage::Ended => ProbeTurn::Rest,
         }
     }
 
@@ -111,7 +111,7 @@ impl Prober {
         ensures { self.new ≡ with_result self.old now Probed.Failed }
     {
         self.results = self.results.saturating_add(1);
-        self.stage = ProberStage::Waiting(due(self.delays, self.results, now));
+        self.stage = ProberStage::Resting(due(self.delays, self.results, now));
     }
 
     /// Ends the prober, for instance where the server is no longer this thread's to probe.

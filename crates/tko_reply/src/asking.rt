@@ -22,7 +22,7 @@ use std::sync::Wait;
 use tko_bytes::NoMemory;
 use tko_links::Outcome;
 use tko_pools::Config;
-use tko_route::{Health, Stage, Waiting};
+use tko_route::{AwaitedSend, Health, Stage};
 use tko_text::Request;
 
 mod handing;
@@ -162,7 +162,7 @@ impl OneKey {
         config: &Config,
         targets: &[usize],
         outbox: &mut Outbox,
-        waiting: Waiting,
+        waiting: AwaitedSend,
         outcome: Outcome,
     ) -> Result<Stage, Dropped>
         requires servers { H.servers health.old ≡ length config.now.addresses }

@@ -3,7 +3,7 @@ ghost use Rattle.std.specs.Prelude.{◌≡◌};
 
 use std::marker::Model;
 use tko_bytes::NoMemory;
-use tko_route::{Attempt, Trail, Waiting};
+use tko_route::{Attempt, AwaitedSend, Trail};
 
 /// Memory ran out, and the request was dropped. It has the attempts of whose marks nobody was told;
 /// contracts see their list.
@@ -50,7 +50,7 @@ impl From<NoMemory> for Dropped {
 }
 
 /// Drops a request where memory ran out at its send.
-pub fn stop(waiting: Waiting, fault: tko_links::ExchangeNoMemory) -> Dropped
+pub fn stop(waiting: AwaitedSend, fault: tko_links::ExchangeNoMemory) -> Dropped
     ensures { result ≡ waiting.attempts }
 {
     Dropped::after(waiting.stop(fault).trail)

@@ -12,7 +12,7 @@ use Rattle.tko_port.specs.declared.peer.Peer.{Peer}
 use Rattle.tko_prober.specs.declared.backend.Backend.{Backend}
 use Rattle.tko_prober.specs.declared.prober.Prober.{Prober}
 use Rattle.tko_prober.specs.declared.prober.ProberStage.{ProberStage}
-use Rattle.tko_prober.specs.declared.prober.ProberStage.TheVariants.{Ended, Out, Waiting}
+use Rattle.tko_prober.specs.declared.prober.ProberStage.TheVariants.{Ended, Out, Resting}
 use Rattle.tko_prober.specs.Halves.{IsOut, IsResult}
 use Rattle.tko_prober.specs.Probers.{prober_of}
 use Rattle.tko_reply.specs.declared.parts.Parts.{Parts}
@@ -25,7 +25,7 @@ use Rattle.tko_rounds.specs.Workers.{KeepsServers}
 
 -- a probe is out, or is not
 stage_out : (stage : ProberStage) → (stage ≡ Out) ⊎ (stage ≡ Out → ⊥)
-stage_out (Waiting due) = inr (λ out. cc)
+stage_out (Resting due) = inr (λ out. cc)
 stage_out Out = inl refl
 stage_out Ended = inr (λ out. cc)
 

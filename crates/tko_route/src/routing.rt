@@ -2,7 +2,7 @@
 //! a record of an outcome may wait for a lock of the health.
 //!
 //! - `Stage`: how far a routing came. `begin` looks for the first server that is up.
-//! - `Waiting`: a request was sent. `answered` records what came of it, and goes on; `recorded`
+//! - `AwaitedSend`: a request was sent. `answered` records what came of it, and goes on; `recorded`
 //!   goes on where a call that other requests share recorded it.
 ghost use Rattle.std.specs.Prelude.{◌≡◌, ◌+◌, ◌-◌, ◌<◌, ◌≤◌, ◌∷◌, ◌++◌, ℕ, All, IfOk, List, OnErr, length, vec_capacity};
 ghost use Rattle.tko_route.specs.Calls.{RoutedCall};
@@ -27,7 +27,7 @@ mod recorded;
 
 /// A routed request that was sent to a server, until its outcome is recorded.
 #[derive(Debug, Drop)]
-pub struct Waiting {
+pub struct AwaitedSend {
     attempts: Vec<Attempt>,
     server: usize,
 }
@@ -36,12 +36,12 @@ pub struct Waiting {
 #[derive(Debug, Drop)]
 pub enum Stage {
     /// The request, as it is now, may be sent once to the server that the permission names.
-    Away(Clear, Waiting),
+    Away(Clear, AwaitedSend),
     /// A target answered, or none is left: these are all attempts.
     Done(Trail),
 }
 
-impl Model for Waiting {
+impl Model for AwaitedSend {
     ghost use Rattle.std.specs.Prelude.{◌<◌, length, vec_capacity};
     ghost use Rattle.tko_route.specs.Underway.{Awaited};
 
@@ -82,7 +82,7 @@ impl Stage {
     }
 }
 
-impl Waiting {
+impl AwaitedSend {
     /// The server that the request was sent to.
     pub fn server(&self) -> usize
         ensures { result ≡ self.now.server }
@@ -171,7 +171,7 @@ fn look_on<R: Wait, H: Health>(
         let server = targets[attempts.len()];
         prepare(request, attempts.len(), exptime);
         match health.look_up(rt, server) {
-            Look::Up(_, clear) => return Stage::Away(clear, Waiting { attempts, server }),
+            Look::Up(_, clear) => return Stage::Away(clear, AwaitedSend { attempts, server }),
             Look::Marked(mark) => attempts.push_reserved(Attempt::Skipped(server, mark)),
         }
     }

@@ -18,7 +18,7 @@ use std::sync::Wait;
 use tko_links::Outcome;
 use tko_pools::Config;
 use tko_reply::{Dropped, OneKey, Outbox, stop};
-use tko_route::{Health, Waiting};
+use tko_route::{AwaitedSend, Health};
 use tko_text::{FeedFault, Reader, Request};
 
 mod attempts;
@@ -70,7 +70,7 @@ enum KeyWait {
     /// The record of the request, which was read and is to be begun.
     Read,
     /// What comes of its send.
-    Sent(Waiting),
+    Sent(AwaitedSend),
     /// The record of its trail; its response is in the outbox.
     Tried,
 }

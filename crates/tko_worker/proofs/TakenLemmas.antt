@@ -40,18 +40,18 @@ live_of (Shut left) it pipe is = absurd (let none : ⊥ = cc is in none)
 none_there : {S P : Type 0} (waits_for : WaitsFor S) (roster : RosterState (Client S) P)
     (server : ℕ) (first : Option Waiter) (was now : LineState) (pipe : PipeState) → first_on was.pipe ≡ first
     → ReadsFirst waits_for roster server first was (Ok None) now → now.pipe ≡ Some pipe
-    → AwaitsMore waits_for roster server (slice_get pipe.waiting 0) pipe
+    → AwaitsMore waits_for roster server (slice_get pipe.waiters 0) pipe
 none_there waits_for roster server None was now pipe is read here =
     let before : was.pipe ≡ Some pipe = sym (ap (λ (l : LineState). l.pipe) read.1) ∙ here in
-    let none : slice_get pipe.waiting 0 ≡ None = sym (ap first_on before) ∙ is in
+    let none : slice_get pipe.waiters 0 ≡ None = sym (ap first_on before) ∙ is in
     subst (λ (f : Option Waiter). AwaitsMore waits_for roster server f pipe) (sym none) tt
 none_there waits_for roster server (Some waiter) was now pipe is read here =
     let on = read.on in
     let of : on.now ≡ pipe =
     live_of on.now.link on.now pipe (sym (ap (λ (l : LineState). l.pipe) on.to) ∙ here) in
     let same : on.was ≡ pipe = sym on.ends.0 ∙ of in
-    let some : slice_get on.was.waiting 0 ≡ Some waiter = sym (ap first_on on.from) ∙ is in
-    subst (λ (p : PipeState). AwaitsMore waits_for roster server (slice_get p.waiting 0) p) same
+    let some : slice_get on.was.waiters 0 ≡ Some waiter = sym (ap first_on on.from) ∙ is in
+    subst (λ (p : PipeState). AwaitsMore waits_for roster server (slice_get p.waiters 0) p) same
     (subst (λ (f : Option Waiter). AwaitsMore waits_for roster server f on.was) (sym some)
     (record { request = read.lent; is_lent = read.is_lent; short = on.ends.1 }))
 

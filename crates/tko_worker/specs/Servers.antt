@@ -46,7 +46,7 @@ pipe_at line = option_and_then (λ it. it.pipe) line
 abbrev pub HasNoResponse : {S P : Type 0} → WaitsFor S → MuxState S P → ℕ → Type 0
 HasNoResponse waits_for mux server = (pipe : PipeState)
     → pipe_at (slice_get mux.lines server) ≡ Some pipe → pipe.link ≡ Connected
-    → AwaitsMore waits_for mux.roster server (slice_get pipe.waiting 0) pipe
+    → AwaitsMore waits_for mux.roster server (slice_get pipe.waiters 0) pipe
 
 -- all that came from a server was read and taken: nobody is left of a connection that was shut,
 -- nothing can be read, and no whole response is unread

@@ -114,7 +114,7 @@ impl Talking<()> for EchoTalk {
         None
     }
 
-    fn is_waiting(&self) -> bool {
+    fn is_asking(&self) -> bool {
         self.awaits.is_some()
     }
 
@@ -343,7 +343,7 @@ impl Talking<()> for AskTalk {
         None
     }
 
-    fn is_waiting(&self) -> bool {
+    fn is_asking(&self) -> bool {
         self.awaits.is_some()
     }
 

@@ -104,7 +104,7 @@ impl Asking<()> for Several {
         (None, ())
     }
 
-    fn is_waiting(&self) -> bool {
+    fn is_asking(&self) -> bool {
         !self.zero.is_empty() || !self.one.is_empty()
     }
 

@@ -16,7 +16,7 @@ use std::sync::Wait;
 use tko_links::Outcome;
 use tko_model::Reply;
 use tko_pools::Config;
-use tko_route::{Health, Stage, Waiting};
+use tko_route::{AwaitedSend, Health, Stage};
 
 impl OneKey {
     /// Makes the attempt of a send of which this came, where a call that other keys may share
@@ -28,7 +28,7 @@ impl OneKey {
         config: &Config,
         targets: &[usize],
         outbox: &mut Outbox,
-        waiting: Waiting,
+        waiting: AwaitedSend,
         outcome: Outcome,
         reply: Option<Reply>,
     ) -> Result<Stage, Dropped>

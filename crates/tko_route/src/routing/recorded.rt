@@ -7,14 +7,14 @@ ghost use Rattle.tko_text.specs.declared.request.Request.{Request};
 
 use crate::attempt::{Attempt, Trail};
 use crate::recording::{conclude, is_answered};
-use crate::routing::{Stage, Waiting, look_on};
+use crate::routing::{AwaitedSend, Stage, look_on};
 use std::sync::Wait;
 use tko_health::Health;
 use tko_links::Outcome;
 use tko_model::Reply;
 use tko_text::Request;
 
-impl Waiting {
+impl AwaitedSend {
     /// The attempts before this send, and its own.
     fn attempts_with(self, outcome: Outcome, reply: Option<Reply>) -> Vec<Attempt>
         requires { IsSome reply ↔ IsSome (op_of outcome) }

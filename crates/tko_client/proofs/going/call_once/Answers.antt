@@ -31,19 +31,19 @@ returns-then-may_begin g c =
     c.begin_key.new.parts c.requires.ready c.in-Some.is c.begin_key.ensures.call
     c.begin_key.ensures.stays
 
-pub returns-else-is_waiting : goal.returns-else-is_waiting
-returns-else-is_waiting g c =
-    let nobody = not_waiting c.in-Some.keys c.is_waiting.result c.is_waiting.ensures
-    c.if-is_waiting.false in
+pub returns-else-is_asking : goal.returns-else-is_asking
+returns-else-is_asking g c =
+    let nobody = not_waiting c.in-Some.keys c.is_asking.result c.is_asking.ensures
+    c.if-is_asking.false in
     ended_called (client_ghosts {C = g.row.C.Denot} g.H.Health g.T.Trails) g.H.Health.servers
     c.end_keys.result c.args.it.now c.end_keys.new.it c.args.parts.now c.requires.ready
     (record {
       keys = c.in-Some.keys;
       are = c.in-Some.is;
-      complete = complete_by c.in-Some.keys c.next_send.result c.is_waiting.result
+      complete = complete_by c.in-Some.keys c.next_send.result c.is_asking.result
           c.may_begin.result (settled c.requires.ready c.in-Some.is).settled
-          c.next_send.ensures.none c.is_waiting.ensures
-          c.may_begin.ensures c.in_default.is c.if-is_waiting.false c.if-may_begin.false;
+          c.next_send.ensures.none c.is_asking.ensures
+          c.may_begin.ensures c.in_default.is c.if-is_asking.false c.if-may_begin.false;
       handed = is_handed c.requires.ready c.in-Some.is;
     }) (ap (λ k. awaited_with k c.args.it.now.session.work) c.in-Some.is ∙ nobody)
     (subst (λ k. HasEndedKeys c.end_keys.result

@@ -17,4 +17,4 @@ returns-clause-linked g c =
     line_linked g.S.Asking.awaited _ c.args.self.now c.args.server c.index_mut.result.now
     c.connected.new.self c.self.view_is (search rules) c.index_mut.ensures.value c.requires.linked
     (live_waits _ c.index_mut.result.now c.connected.new.self
-    (λ was now is. ap (λ (p : PipeState). p.waiting) is.state) c.connected.ensures)
+    (λ was now is. ap (λ (p : PipeState). p.waiters) is.state) c.connected.ensures)

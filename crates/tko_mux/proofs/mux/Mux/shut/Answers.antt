@@ -29,4 +29,4 @@ returns-clause-linked g c =
     (pipe_waits _ c.index_mut.result.now c.shut.new.self
     (none_leaving _ c.args.self.now c.args.server c.index_mut.result.now c.self.view_is
     (search rules) c.index_mut.ensures.value c.requires.left)
-    (λ was it is. ap (λ (p : PipeState). p.waiting) is.state) c.shut.ensures)
+    (λ was it is. ap (λ (p : PipeState). p.waiters) is.state) c.shut.ensures)

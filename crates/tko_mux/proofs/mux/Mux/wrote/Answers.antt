@@ -23,4 +23,4 @@ returns-clause-linked g c =
     line_linked g.S.Asking.awaited _ c.args.self.now c.args.server c.index_mut.result.now
     c.wrote.new.self c.self.view_is (search rules) c.index_mut.ensures.value c.requires.linked
     (live_waits _ c.index_mut.result.now c.wrote.new.self
-    (λ was now is. ap (λ (p : PipeState). p.waiting) is.state) c.wrote.ensures)
+    (λ was now is. ap (λ (p : PipeState). p.waiters) is.state) c.wrote.ensures)

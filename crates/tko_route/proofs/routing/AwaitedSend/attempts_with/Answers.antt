@@ -2,7 +2,7 @@ use Rattle.std.proofs.Common.{◌≡◌, ◌++◌, ◌∷◌, [], rules}
 use Rattle.tko_route.proofs.RecordedLemmas.{makes_recorded}
 use Rattle.tko_route.proofs.RoutingLemmas.{concluded_again}
 use Rattle.tko_route.specs.Trail.{server_of}
-use Rattle.tko_route.proofs.routing.Waiting.attempts_with.Goals as goal
+use Rattle.tko_route.proofs.routing.AwaitedSend.attempts_with.Goals as goal
 
 pub returns-clause-calls : goal.returns-clause-calls
 returns-clause-calls c = λ form calls up.

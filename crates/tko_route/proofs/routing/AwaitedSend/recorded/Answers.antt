@@ -3,7 +3,7 @@ use Rattle.std.specs.Option.{IsSome}
 use Rattle.tko_route.specs.Trail.{answer_of}
 use Rattle.tko_route.proofs.RecordedLemmas.{done_then, then_on}
 use Rattle.tko_route.proofs.RoutingLemmas.{is_done, is_tried}
-use Rattle.tko_route.proofs.routing.Waiting.recorded.Goals as goal
+use Rattle.tko_route.proofs.routing.AwaitedSend.recorded.Goals as goal
 
 pub returns-then-is_answered-clause-calls : goal.returns-then-is_answered-clause-calls
 returns-then-is_answered-clause-calls g c =

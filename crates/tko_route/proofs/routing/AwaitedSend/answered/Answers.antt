@@ -2,7 +2,7 @@ use Rattle.std.proofs.Common.{◌≡◌, ℕ, ap, subst}
 use Rattle.tko_route.specs.Trail.{IsRecorded, op_of}
 use Rattle.tko_route.specs.Underway.{Awaited}
 use Rattle.tko_route.proofs.RecordedLemmas.{is_replied, record_then}
-use Rattle.tko_route.proofs.routing.Waiting.answered.Goals as goal
+use Rattle.tko_route.proofs.routing.AwaitedSend.answered.Goals as goal
 
 pub recorded-requires-clause-replied : goal.recorded-requires-clause-replied
 recorded-requires-clause-replied g c =
