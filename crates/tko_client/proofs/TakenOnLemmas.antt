@@ -18,7 +18,7 @@ use Rattle.tko_keys.specs.KeysState.{KeySlot, KeysCame, KeysState}
 use Rattle.tko_keys.specs.SlotCalls.{PartDropped}
 use Rattle.tko_keys.specs.KeysActs as act
 use Rattle.tko_keys.specs.SlotCalls as slots
-use Rattle.tko_client.specs.Keys.{DoesForKeys, HasGoneOn, HaveActedForKeys, HaveGoneOn}
+use Rattle.tko_client.specs.Keys.{DoesForKeys, HasKeyGoneOn, HaveActedForKeys, HaveGoneOn}
 use Rattle.tko_client.specs.Keys.{IsKeyRecorded, KeysOver}
 use Rattle.tko_client.proofs.AskLemmas.{none_true}
 use Rattle.tko_client.proofs.KeysLemmas.{recorded_came, recorded_ready, recorded_sends, said_act}
@@ -39,7 +39,7 @@ module _ {H T C : Type 0} (ghosts : PartsGhosts H (List ℕ) T C) where
       → FirstTaken parts.config old (map Told items) said mid → AreUnderWay parts.config mid
       → Gains ghosts.backend.steps parts.backend.health items health
       → IsKeyRecorded ghosts said (mid, with_health health parts) (new, after)
-      → HasGoneOn ghosts (old, parts) (new, after)
+      → HasKeyGoneOn ghosts (old, parts) (new, after)
   took_call old mid new parts after health items said on ready gains noted =
       let has =
       said_act ghosts (FirstTaken parts.config old (map Told items)) parts.config old mid new
@@ -64,7 +64,7 @@ module _ {H T C : Type 0} (ghosts : PartsGhosts H (List ℕ) T C) where
       → FirstLost parts.config old (map Told items) attempts new → AreUnderWay parts.config new
       → Gains ghosts.backend.steps parts.backend.health items health
       → after ≡ with_noted attempts (with_health health parts)
-      → HasGoneOn ghosts (old, parts) (new, after)
+      → HasKeyGoneOn ghosts (old, parts) (new, after)
   take_lost_call old new parts after health items attempts on ready gains is =
       let places : new.came.places ≡ on.places = ap (λ (k : KeysState). k.came.places) on.state
       ∙ dropped_places on.lost in record {
@@ -81,7 +81,7 @@ module _ {H T C : Type 0} (ghosts : PartsGhosts H (List ℕ) T C) where
 
   -- one more act
   pub acted_on : {config : Configuration} {old mid new : KeysOver H T C} → mid.1.config ≡ config
-      → HaveActedForKeys ghosts config old mid → HasGoneOn ghosts mid new
+      → HaveActedForKeys ghosts config old mid → HasKeyGoneOn ghosts mid new
       → HaveActedForKeys ghosts config old new
   acted_on {mid = mid} {new} same acted on = record {
     calls = acted.calls ++ on.done ∷ [];
@@ -104,6 +104,6 @@ module _ {H T C : Type 0} (ghosts : PartsGhosts H (List ℕ) T C) where
   }
 
   -- one less is left then
-  pub less_left : (old new : KeysOver H T C) → HasGoneOn ghosts old new
+  pub less_left : (old new : KeysOver H T C) → HasKeyGoneOn ghosts old new
       → length new.0.came.places < length old.0.came.places
   less_left old new on = omega (arith, ap (λ (xs : List ℕ). length xs) on.places)

@@ -92,7 +92,7 @@ module _ {H T C : Type 0} (ghosts : PartsGhosts H (List ℕ) T C) where
     pub left : AreKeysLeft went old new
 
   -- the first key that something came for was taken on
-  pub record HasGoneOn (old new : KeysOver H T C) : Type 0 where
+  pub record HasKeyGoneOn (old new : KeysOver H T C) : Type 0 where
     pub done : List Interaction
     pub act : DoesForKeys old.1.config old done new
     pub place : ℕ

@@ -4,7 +4,7 @@ ghost use Rattle.tko_reply.specs.Interactions.{with_noted};
 ghost use Rattle.tko_keys.specs.KeysDriven.{AreUnderWay};
 ghost use Rattle.tko_keys.specs.KeysState.{MayBegin};
 ghost use Rattle.tko_client.specs.Answerings.{AreSettled};
-ghost use Rattle.tko_client.specs.Keys.{HasGoneOn, HasKeyCall, HaveGoneOn, IsDueAfter};
+ghost use Rattle.tko_client.specs.Keys.{HasKeyGoneOn, HasKeyCall, HaveGoneOn, IsDueAfter};
 ghost use Rattle.tko_client.specs.Keys.{IsKeyRecorded};
 ghost use Rattle.tko_client.specs.Steps.{HasStayed, client_ghosts};
 
@@ -73,7 +73,7 @@ fn go_on_key<R: IoRuntime, H: Health, T: Trails, C>(
     requires servers { H.servers parts.old.backend.health ≡ length parts.old.config.addresses }
     requires ready { AreUnderWay parts.old.config keys.old }
     requires some { keys.old.came.places ≢ [] }
-    ensures on { HasGoneOn (client_ghosts H.Health T.Trails) (keys.old, parts.old)
+    ensures on { HasKeyGoneOn (client_ghosts H.Health T.Trails) (keys.old, parts.old)
         (keys.new, parts.new) }
     ensures stays { HasStayed H.servers parts.old parts.new }
 {

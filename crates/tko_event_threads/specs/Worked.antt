@@ -4,7 +4,7 @@ use Rattle.tko_model.specs.Records.{HealthItem}
 use Rattle.tko_desk.specs.declared.book.Share.{Share}
 use Rattle.tko_threads.specs.declared.report.WorkerReport.{WorkerReport}
 use Rattle.tko_event_threads.specs.declared.working.EventParts.{EventParts}
-use Rattle.tko_event_threads.specs.declared.working.Means.{Means}
+use Rattle.tko_event_threads.specs.declared.working.WorkerMeans.{WorkerMeans}
 use Rattle.tko_event_threads.specs.declared.working.Ways.{Ways}
 use Rattle.tko_event_threads.specs.Accounting.{AccountState, HasCounted, IsAccountSettled}
 use Rattle.tko_event_threads.specs.Origins.{IsReached}
@@ -16,7 +16,7 @@ pub record IsEventEquipped {S K : Type 0} (seated : S → ℕ) (parts : EventPar
   pub servers : length parts.servers.items ≡ length parts.config.addresses
 
 -- these are the parts of a worker beside those of its loop
-pub record IsMeansOf {S K : Type 0} (parts : EventParts S K) (means : Means S) : Type 0 where
+pub record IsMeansOf {S K : Type 0} (parts : EventParts S K) (means : WorkerMeans S) : Type 0 where
   pub seating : means.seating.now ≡ parts.seating.now
   pub config : means.config ≡ parts.config
   pub probers : means.probers ≡ parts.probers

@@ -47,7 +47,7 @@ pub struct EventParts<'a, S, K> {
 
 /// What a worker works with beside its loop.
 #[derive(Drop)]
-struct Means<'a, S> {
+struct WorkerMeans<'a, S> {
     seating: &'a S,
     config: Config,
     probers: Probers,
@@ -122,11 +122,11 @@ fn work<N: Origin<H> + Opening, R: IoRuntime, H: Health + Drop, S: Seating<Worke
 }
 
 /// What a worker works with beside its loop, and what its loop is made of.
-fn split_parts<'a, S, K>(parts: EventParts<'a, S, K>) -> (Means<'a, S>, Ways<K>)
+fn split_parts<'a, S, K>(parts: EventParts<'a, S, K>) -> (WorkerMeans<'a, S>, Ways<K>)
     ensures means { IsMeansOf parts.entry result.0 }
     ensures ways { IsWaysOf parts.entry result.1 }
 {
-    let means = Means {
+    let means = WorkerMeans {
         seating: parts.seating,
         config: parts.config,
         probers: parts.probers,

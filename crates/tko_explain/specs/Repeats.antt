@@ -5,12 +5,12 @@ use Rattle.json.specs.Print.{quoted}
 use Rattle.json.specs.Strict.{HasUniqueKeys}
 use Rattle.serde_json.specs.Data.{Data, Members, no_members, member}
 use Rattle.tko_explain.specs.Parts.{list_in, pool_names_of}
-use Rattle.tko_explain.specs.Warnings.{is_among, members_at}
+use Rattle.tko_explain.specs.Warnings.{is_in_names, members_at}
 
 -- a name, where it is among these that follow it
 abbrev pub name_again : List ℕ → List ℕ → List (List ℕ) → List ℕ → List ℕ
 name_again before place others name =
-    if is_among others name then before ++ quoted name ++ place ++ codes "\n" else []
+    if is_in_names others name then before ++ quoted name ++ place ++ codes "\n" else []
 
 -- each name of a list that comes again in it
 abbrev pub names_again : List ℕ → List ℕ → List (List ℕ) → List ℕ

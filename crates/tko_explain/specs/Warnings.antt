@@ -17,13 +17,13 @@ pool_keys = codes "servers" ∷ codes "soft_limit" ∷ []
 abbrev pub route_keys : List (List ℕ)
 route_keys = codes "type" ∷ codes "children" ∷ codes "failover_exptime" ∷ []
 
-abbrev pub is_among : List (List ℕ) → List ℕ → Bool
-is_among names name = list_any (bytes_eq name) names
+abbrev pub is_in_names : List (List ℕ) → List ℕ → Bool
+is_in_names names name = list_any (bytes_eq name) names
 
 -- a key in this place, unless it is one of those that are read
 abbrev pub key_text : List ℕ → List (List ℕ) → List ℕ → List ℕ
 key_text place keys key =
-    if is_among keys key then []
+    if is_in_names keys key then []
     else codes "warning: key " ++ quoted key ++ place ++ codes " is ignored\n"
 
 -- each key in this place that is none of those that are read
@@ -35,7 +35,7 @@ ignored_text place keys (member key value others) =
 -- a pool, unless a child names it
 abbrev pub unnamed_text : List (List ℕ) → List ℕ → List ℕ
 unnamed_text names name =
-    if is_among names name then []
+    if is_in_names names name then []
     else codes "warning: no child of the route names pool " ++ quoted name ++ codes "\n"
 
 abbrev pub pool_place : List ℕ → List ℕ

@@ -7,7 +7,7 @@ ghost use Rattle.tko_explain.specs.Repeats.{IsKeyText, name_again, names_again, 
 
 use crate::parts::{list_in, names_in};
 use crate::printing::{append_around, quoted};
-use crate::warnings::is_among;
+use crate::warnings::is_in_names;
 use json::{Error, Scratch};
 use serde_json::{Map, Value};
 use std::alloc::Global;
@@ -103,7 +103,7 @@ fn append_name(
     ensures { OnOk result (out.new.items ≡ out.old.items
         ++ name_again before.now place.now (map (λ name. name.now) others.now) name.now) }
 {
-    if !is_among(others, name) {
+    if !is_in_names(others, name) {
         return Ok(());
     }
     append_around(alloc, out, before, name, place, b"\n")

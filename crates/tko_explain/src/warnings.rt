@@ -3,7 +3,7 @@
 ghost use Rattle.std.specs.Prelude.{◌≡◌, ◌++◌, OnOk, map};
 ghost use Rattle.serde_json.specs.View.{members_view, view};
 ghost use Rattle.tko_explain.specs.Parts.{members_in};
-ghost use Rattle.tko_explain.specs.Warnings.{ignored_text, is_among, key_text, pool_keys, pool_place, pool_text, pools_text, unnamed_text, warnings_text};
+ghost use Rattle.tko_explain.specs.Warnings.{ignored_text, is_in_names, key_text, pool_keys, pool_place, pool_text, pools_text, unnamed_text, warnings_text};
 
 use crate::parts::names_in;
 use crate::printing::{append_around, quoted};
@@ -81,7 +81,7 @@ fn append_key(
     ensures { OnOk result (out.new.items
         ≡ out.old.items ++ key_text place.now (map (λ key. key.now) keys.now) key.now) }
 {
-    if is_among(keys, key) {
+    if is_in_names(keys, key) {
         return Ok(());
     }
     append_around(alloc, out, b"warning: key ", key, place, b" is ignored\n")
@@ -145,7 +145,7 @@ fn append_unnamed(
     ensures { OnOk result (out.new.items
         ≡ out.old.items ++ unnamed_text (map (λ name. name.now) names.now) name.now) }
 {
-    if is_among(names, name) {
+    if is_in_names(names, name) {
         return Ok(());
     }
     append_around(
@@ -158,8 +158,8 @@ fn append_unnamed(
     )
 }
 
-pub(crate) fn is_among(names: &[&str], name: &str) -> bool
-    ensures { result ≡ is_among (map (λ name. name.now) names.now) name.now }
+pub(crate) fn is_in_names(names: &[&str], name: &str) -> bool
+    ensures { result ≡ is_in_names (map (λ name. name.now) names.now) name.now }
 {
     for other in names {
         if name == *other {

@@ -14,14 +14,14 @@ use Rattle.tko_reply.specs.Answers.{IsKeyRouted}
 use Rattle.tko_reply.specs.Asking.{Joins}
 use Rattle.tko_reply.specs.Interactions.{Interaction}
 use Rattle.tko_reply.specs.Asking as asked
-use Rattle.tko_keys.specs.KeysState.{KeySlot, has_values, list_in, reply_at, reply_in, values_ahead}
+use Rattle.tko_keys.specs.KeysState.{KeySlot, has_values, values_and_end, reply_at, reply_in, values_ahead}
 use Rattle.tko_keys.specs.KeysState.{listed_by}
 use Rattle.tko_keys.specs.KeysSoFar.{IsKeyEnded}
 
 -- all values and `END` were put together
 pub finish_ends : {E : Type 0} (slots : List KeySlot) (ahead : ℕ) (old new : List ℕ)
     (it : Result Unit E) → ahead ≡ values_ahead slots → length slots ≤ ahead
-    → OnOk it (new ≡ old ++ list_in slots) → OnOk it (new ≡ old ++ reply_in slots)
+    → OnOk it (new ≡ old ++ values_and_end slots) → OnOk it (new ≡ old ++ reply_in slots)
 finish_ends slots ahead old new (Err e) is past ends = tt
 finish_ends slots ahead old new (Ok u) is past ends =
     let none : slice_get slots (values_ahead slots) ≡ None =

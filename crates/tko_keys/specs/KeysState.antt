@@ -153,12 +153,12 @@ abbrev pub IsComplete : KeysState → Type 0
 IsComplete state = (places_out state ≡ []) × ¬ (MayBegin state)
 
 -- all values and `END`
-abbrev pub list_in : List KeySlot → List ℕ
-list_in slots = flat_map (λ (slot : KeySlot). slot.outbox) slots ++ end_line
+abbrev pub values_and_end : List KeySlot → List ℕ
+values_and_end slots = flat_map (λ (slot : KeySlot). slot.outbox) slots ++ end_line
 
 -- the reply, given the first key that got no list of values, if there is one
 abbrev pub reply_at : Option KeySlot → List KeySlot → List ℕ
-reply_at None slots = list_in slots
+reply_at None slots = values_and_end slots
 reply_at (Some slot) slots = slot.outbox
 
 -- all values and `END`; or the whole reply to the first key that got no list of values

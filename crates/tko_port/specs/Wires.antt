@@ -29,7 +29,7 @@ IsOpen None = ⊥
 IsOpen (Some line) = line.ended ≡ None
 
 -- the connection to a server was made, and nobody is left that waited on one that was shut
-pub record IsMade (server : ℕ) (lines : List LineState) : Type 0 where
+pub record IsConnectionMade (server : ℕ) (lines : List LineState) : Type 0 where
   pub within : server < length lines
   pub link : link_at (slice_get lines server) ≡ Some Connected
   pub left : HasNoneLeaving (slice_get lines server)

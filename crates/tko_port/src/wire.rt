@@ -4,7 +4,7 @@ ghost use Rattle.std.specs.Bool.{OnFalse, OnTrue};
 ghost use Rattle.tko_pipe.specs.Pipes.{IsCause, PipeState};
 ghost use Rattle.tko_mux.specs.Linking.{AreLinked};
 ghost use Rattle.tko_mux.specs.Muxes.{HasNoneLeaving, line_at};
-ghost use Rattle.tko_port.specs.Wires.{AreGivenUp, CannotRead, CannotWriteTo, HasCome, HasRead, HasWritten, IsMade, IsNotWritable, IsOpen, LeavesPort, OtherLines, ReadsFromPort, WritesPiece, due_at, first_at, is_first_late, link_at, unwritten_at};
+ghost use Rattle.tko_port.specs.Wires.{AreGivenUp, CannotRead, CannotWriteTo, HasCome, HasRead, HasWritten, IsConnectionMade, IsNotWritable, IsOpen, LeavesPort, OtherLines, ReadsFromPort, WritesPiece, due_at, first_at, is_first_late, link_at, unwritten_at};
 
 use crate::{Port, Read};
 use tko_mux::{Asking, Mux};
@@ -149,7 +149,7 @@ fn receive<P, S: Asking<P> + Drop, L: Port + Drop>(
     now: u64,
     bytes: &[u8],
 )
-    requires made { IsMade server mux.old.lines }
+    requires made { IsConnectionMade server mux.old.lines }
     requires some { 0 < length bytes.now }
     requires linked { AreLinked S.awaited mux.old.roster.slots mux.old.lines }
     ensures come { HasCome server now bytes.now mux.old.lines (option_map L.port socket.old)
@@ -235,7 +235,7 @@ fn give_up<P, S: Asking<P> + Drop, L: Port + Drop>(
     server: usize,
     cause: ShutCause,
 )
-    requires made { IsMade server mux.old.lines }
+    requires made { IsConnectionMade server mux.old.lines }
     requires cause { (pipe : PipeState) → IsCause pipe cause }
     requires linked { AreLinked S.awaited mux.old.roster.slots mux.old.lines }
     ensures shut { AreGivenUp server cause mux.old.lines mux.new.lines

@@ -4,10 +4,11 @@ use Rattle.tko_model.specs.declared.mark.Mark.{Mark}
 use Rattle.tko_model.specs.declared.mark.Mark.TheVariants.{Up, Soft, Hard}
 use Rattle.tko_model.specs.Settings.{Settings}
 use Rattle.tko_model.specs.declared.state.ServerState.{ServerState}
-use Rattle.tko_runs.specs.States.{same_word, wrote}
+use Rattle.tko_runs.specs.States.{wrote}
 use Rattle.tko_runs.specs.Words.{CanLeaveServer, IsWonExchange}
 use Rattle.tko_steps.specs.declared.step.Word.{Word}
 use Rattle.tko_steps.specs.Core.{owner_of, is_call_step}
+use Rattle.tko_steps.specs.Lost.{same_word}
 use Rattle.tko_steps.specs.Steps.{kind_of_exchange}
 
 pub exchange-steps : (old new : Mark) → is_call_step (kind_of_exchange old new) ≡ true

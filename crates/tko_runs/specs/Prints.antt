@@ -14,7 +14,7 @@ use Rattle.tko_runs.specs.declared.checking.order.Point.{Point}
 use Rattle.tko_runs.specs.declared.checking.order.Point.TheVariants as point
 use Rattle.tko_runs.specs.declared.version.Version.{Version}
 use Rattle.tko_runs.specs.declared.version.Version.TheVariants as version
-use Rattle.tko_runs.specs.States.{opened_state, same_word, state_after_all}
+use Rattle.tko_runs.specs.States.{opened_state, state_after_all}
 use Rattle.tko_runs.specs.Runs.{Skip, RunData}
 use Rattle.tko_model.specs.Texts.{mark_text, op_text, reply_text}
 use Rattle.tko_steps.specs.declared.step.BeginFault.{BeginFault}
@@ -27,6 +27,7 @@ use Rattle.tko_steps.specs.declared.phase.Slots.{Slots}
 use Rattle.tko_steps.specs.declared.step.Word.{Word}
 use Rattle.tko_steps.specs.declared.step.Word.TheVariants as word
 use Rattle.tko_steps.specs.Core.{is_call_step}
+use Rattle.tko_steps.specs.Lost.{same_word}
 use Rattle.tko_steps.specs.Runs.{step_count_of}
 
 abbrev pub line : List ℕ → List ℕ

@@ -1,6 +1,6 @@
 -- What the events of a run claim: the words and the state of each thread after them, and which
 -- event can come next.
-use Rattle.std.specs.Prelude.{◌≡◌, ℕ, ◌+◌, ◌<◌, ◌==◌, Bool, true, false, if◌then◌else◌, List, [], ◌∷◌, ◌++◌, length, slice_index_or, slice_set, reverse, replicate, Option, Some, None}
+use Rattle.std.specs.Prelude.{◌≡◌, ℕ, ◌+◌, ◌<◌, Bool, true, false, if◌then◌else◌, List, [], ◌∷◌, ◌++◌, length, slice_index_or, slice_set, reverse, replicate, Option, Some, None}
 use Rattle.tko_model.specs.declared.mark.Reply.{Reply}
 use Rattle.tko_model.specs.Settings.{Settings}
 use Rattle.tko_model.specs.declared.state.ServerState.{ServerState}
@@ -20,8 +20,8 @@ use Rattle.tko_steps.specs.declared.step.Place.TheVariants as place
 use Rattle.tko_steps.specs.declared.step.Word.{Word}
 use Rattle.tko_steps.specs.declared.step.Word.TheVariants as word
 use Rattle.tko_steps.specs.Core.{Shared, is_call_step, opened_words}
+use Rattle.tko_steps.specs.Lost.{same_word}
 use Rattle.tko_steps.specs.Runs.{RunCall, Began, Moment, Took, calls_of}
-use Rattle.tko_steps.specs.Table.{same_server, same_slots}
 
 -- The state after events.
 
@@ -190,13 +190,6 @@ pub record IsRunData (run : RunData) : Type 0 where
   pub events : AllCome (opened_state run.settings) run.events
 
 -- What happened.
-
--- whether two words are equal
-abbrev pub same_word : Word → Word → Bool
-same_word (word.Server one) (word.Server other) = same_server one other
-same_word (word.Soft one) (word.Soft other) = same_slots one other
-same_word (word.Enrolled one) (word.Enrolled other) = one == other
-same_word one other = false
 
 -- whether a step of this kind wrote: an exchange that is lost leaves the word that it found
 abbrev pub wrote : StepKind → Word → Word → Bool

@@ -33,6 +33,7 @@ same_place (place.Soft one) (place.Soft other) = one == other
 same_place place.Enrolment place.Enrolment = true
 same_place one other = false
 
+-- whether two words are equal
 abbrev pub same_word : Word → Word → Bool
 same_word (word.Server one) (word.Server other) = same_server one other
 same_word (word.Soft one) (word.Soft other) = same_slots one other

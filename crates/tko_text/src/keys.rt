@@ -16,12 +16,12 @@ const ROOM: usize = 16;
 #[derive(Debug, Drop)]
 pub struct Keys {
     alloc: Global,
-    held: Held,
+    held: KeyStore,
 }
 
 /// Where the keys are: one takes no allocation.
 #[derive(Debug, Drop)]
-pub(crate) enum Held {
+pub(crate) enum KeyStore {
     One(Key),
     Several(Vec<Key>),
 }
@@ -43,7 +43,7 @@ impl Keys {
         ensures { result ≡ keys.items }
     {
         let alloc = *keys.allocator();
-        let held = Held::Several(keys);
+        let held = KeyStore::Several(keys);
         Keys { alloc, held }
     }
 
@@ -51,7 +51,7 @@ impl Keys {
     pub fn one(alloc: Global, key: Key) -> Keys
         ensures { result ≡ key ∷ [] }
     {
-        let held = Held::One(key);
+        let held = KeyStore::One(key);
         Keys { alloc, held }
     }
 
@@ -60,8 +60,8 @@ impl Keys {
         ensures some { 0 < length self.now }
     {
         match &self.held {
-            Held::One(key) => from_ref(key),
-            Held::Several(keys) => keys.as_slice(),
+            KeyStore::One(key) => from_ref(key),
+            KeyStore::Several(keys) => keys.as_slice(),
         }
     }
 
@@ -80,13 +80,13 @@ impl Keys {
         ensures err { OnErr result (self.new ≡ self.old) }
     {
         match &mut self.held {
-            Held::One(_) => Ok(Vec::new(alloc).into_iter()),
-            Held::Several(keys) => {
+            KeyStore::One(_) => Ok(Vec::new(alloc).into_iter()),
+            KeyStore::Several(keys) => {
                 let mut others = replace(keys, Vec::new(alloc)).into_iter();
                 let Some(first) = others.next() else {
                     unreachable!();
                 };
-                self.held = Held::One(first);
+                self.held = KeyStore::One(first);
                 Ok(others)
             }
         }
@@ -96,11 +96,11 @@ impl Keys {
     pub fn set_only(&mut self, key: Key)
         ensures { self.new ≡ key ∷ [] }
     {
-        self.held = Held::One(key);
+        self.held = KeyStore::One(key);
     }
 }
 
-impl Held {
+impl KeyStore {
     ghost use Rattle.tko_text.specs.HeldKeys.{held_keys};
 
     /// Puts a key behind the others.
@@ -108,15 +108,15 @@ impl Held {
         ensures ok { OnOk result (held_keys self.new ≡ held_keys self.old ++ key ∷ []) }
         ensures err { OnErr result (held_keys self.new ≡ held_keys self.old) }
     {
-        if let Held::Several(keys) = self {
+        if let KeyStore::Several(keys) = self {
             return Ok(keys.push(key)?);
         }
         let mut keys = Vec::with_capacity(alloc, ROOM)?;
-        if let Held::One(first) = replace(self, Held::Several(Vec::new(alloc))) {
+        if let KeyStore::One(first) = replace(self, KeyStore::Several(Vec::new(alloc))) {
             keys.push_reserved(first);
         }
         keys.push_reserved(key);
-        *self = Held::Several(keys);
+        *self = KeyStore::Several(keys);
         Ok(())
     }
 }

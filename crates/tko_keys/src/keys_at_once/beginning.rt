@@ -6,7 +6,7 @@ ghost use Rattle.tko_route.specs.Routing.{GoesOn};
 ghost use Rattle.tko_keys.specs.FirstKey.{IsAlone, TakesNext, keys_with};
 ghost use Rattle.tko_keys.specs.KeysDriven.{AreUnderWay, NextBegun, NextLost};
 ghost use Rattle.tko_keys.specs.KeysState.{MayBegin};
-ghost use Rattle.tko_keys.specs.Queues.{HasGrown};
+ghost use Rattle.tko_keys.specs.Queues.{HasMoreRoom};
 
 use super::KeysAtOnce;
 use super::places::{failed_with, note_step, values_ahead};
@@ -81,9 +81,9 @@ fn make_room(
     out: usize,
 ) -> Result<(), NoMemory>
     ensures slots { slots.new.items ≡ slots.old.items }
-    ensures due { HasGrown (due.old.items, deque_capacity due.old)
+    ensures due { HasMoreRoom (due.old.items, deque_capacity due.old)
         (due.new.items, deque_capacity due.new) }
-    ensures sends { HasGrown (sends.old.items, deque_capacity sends.old)
+    ensures sends { HasMoreRoom (sends.old.items, deque_capacity sends.old)
         (sends.new.items, deque_capacity sends.new) }
     ensures room { OnOk result (vec_len slots.new < vec_capacity slots.new) }
     ensures due_room { OnOk result (out ≤ deque_capacity due.new) }

@@ -1,7 +1,7 @@
 //! The reply of all keys.
 ghost use Rattle.std.specs.Prelude.{◌≡◌, ◌++◌, OnErr, OnOk, flat_map};
 ghost use Rattle.tko_reply.specs.Answering.{Extends};
-ghost use Rattle.tko_keys.specs.KeysState.{KeySlot, list_in, reply_in};
+ghost use Rattle.tko_keys.specs.KeysState.{KeySlot, values_and_end, reply_in};
 
 use super::KeysAtOnce;
 use crate::slot::Slot;
@@ -26,7 +26,7 @@ impl KeysAtOnce {
 
 /// Puts a whole list of values at the end of an outbox: the responses to some keys, and `END`.
 fn append_list(slots: &[Slot], outbox: &mut Outbox) -> Result<(), NoMemory>
-    ensures ok { OnOk result (outbox.new ≡ outbox.old ++ list_in slots.now) }
+    ensures ok { OnOk result (outbox.new ≡ outbox.old ++ values_and_end slots.now) }
     ensures err { OnErr result (Extends outbox.old outbox.new) }
 {
     append_values(slots, outbox)?;

@@ -1,6 +1,6 @@
 //! The lines of events and of skipped turns.
 ghost use Rattle.std.specs.Prelude.{◌≡◌, ◌++◌, OnOk};
-ghost use Rattle.tko_runs.specs.States.{same_word};
+ghost use Rattle.tko_steps.specs.Lost.{same_word};
 ghost use Rattle.tko_steps.specs.Table.{same_server};
 ghost use Rattle.tko_runs.specs.Prints.{answer_text, begin_text, event_text, kind_text, line, place_text, refusal_text, skipped_text, step_outcome_text, step_text, won_text};
 
