@@ -5,8 +5,8 @@
 #![tactic(auto)]
 
 mod answer;
-mod guest;
-mod guests;
+mod page_client;
+mod page_clients;
 mod pages;
 mod scrapes;
 mod visit;

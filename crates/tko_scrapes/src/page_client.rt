@@ -1,6 +1,7 @@
 //! A client of the metrics over its socket.
 ghost use Rattle.std.specs.Prelude.{◌↔◌, ◌-◌, ◌*◌, ◌≤◌, IsTrue};
 ghost use Rattle.std.specs.Time.{instant_nanos};
+ghost use Rattle.tko_scrapes.specs.Visits.{nanos_in_millisecond, page_grace, page_time};
 
 use crate::pages::Pages;
 use crate::visit::{CallEnd, PageExchange, after};
@@ -15,6 +16,9 @@ const TIME: u64 = 5000;
 
 /// How many milliseconds a client stays at least where another one waits for its place.
 const GRACE: u64 = 100;
+
+/// How many bytes after the request are read at once.
+const REST: usize = 4096;
 
 /// Where a client stands.
 #[derive(Drop)]
@@ -47,7 +51,8 @@ impl PageClient {
     /// Whether its time is over.
     pub(crate) fn is_late(&self, now: Instant) -> bool
         ensures { IsTrue result
-            ↔ (5_000_000_000 ≤ instant_nanos now - instant_nanos self.now.came) }
+            ↔ (page_time * nanos_in_millisecond
+            ≤ instant_nanos now - instant_nanos self.now.came) }
     {
         has_passed(TIME, self.came, now)
     }
@@ -55,7 +60,8 @@ impl PageClient {
     /// Whether it may be closed for another client.
     pub(crate) fn may_go(&self, now: Instant) -> bool
         ensures { IsTrue result
-            ↔ (100_000_000 ≤ instant_nanos now - instant_nanos self.now.came) }
+            ↔ (page_grace * nanos_in_millisecond
+            ≤ instant_nanos now - instant_nanos self.now.came) }
     {
         has_passed(GRACE, self.came, now)
     }
@@ -84,7 +90,7 @@ impl PageClient {
 
 /// Reads once what nobody asks for, and is done where nothing follows.
 fn drain<R: Read>(reader: &mut R) -> CallEnd {
-    let mut rest = [0u8; 4096];
+    let mut rest = [0u8; REST];
     match reader.read(&mut rest) {
         Ok(0) => CallEnd::Done,
         read => after(&read),
@@ -93,7 +99,8 @@ fn drain<R: Read>(reader: &mut R) -> CallEnd {
 
 /// Whether so many milliseconds have passed from one moment to another.
 fn has_passed(time: u64, from: Instant, to: Instant) -> bool
-    ensures { IsTrue result ↔ (time * 1_000_000 ≤ instant_nanos to - instant_nanos from) }
+    ensures { IsTrue result
+        ↔ (time * nanos_in_millisecond ≤ instant_nanos to - instant_nanos from) }
 {
     Duration::from_millis(time) <= to.duration_since(from)
 }

@@ -1,7 +1,7 @@
 //! The thread that answers for the metrics.
 
-use crate::guest::PageClient;
-use crate::guests::Guests;
+use crate::page_client::PageClient;
+use crate::page_clients::PageClients;
 use crate::pages::Pages;
 use std::alloc::{AllocError, Global};
 use std::net::TcpListener;
@@ -10,7 +10,7 @@ use std::time::{Clock, Instant};
 use tko_metrics::{Meter, Process};
 
 /// How many milliseconds it waits where no client came and none moved anything.
-const PAUSE: u64 = 50;
+const POLL_PAUSE: u64 = 50;
 
 /// Answers several clients at once, on one thread.
 #[derive(Drop)]
@@ -53,44 +53,44 @@ impl Scrapes {
         if self.listener.set_nonblocking(true).is_err() {
             return;
         }
-        let mut guests = Guests::new(alloc);
+        let mut clients = PageClients::new(alloc);
         for _ in rt.forever() {
             if self.meter.has_ended() {
                 return;
             }
-            if !self.serve_once(rt, alloc, &mut guests) {
-                self.meter.wait(rt, PAUSE);
+            if !self.serve_once(rt, alloc, &mut clients) {
+                self.meter.wait(rt, POLL_PAUSE);
             }
         }
     }
 
     /// Takes in one client, if one waits, and gives each a turn. Returns whether there may be more
     /// to do at once.
-    fn serve_once<R: Clock>(&self, rt: &R, alloc: Global, guests: &mut Guests) -> bool {
+    fn serve_once<R: Clock>(&self, rt: &R, alloc: Global, clients: &mut PageClients) -> bool {
         let Ok(now) = Instant::now(rt) else {
             return false;
         };
-        let has_come = self.take_in(alloc, guests, now);
+        let has_come = self.take_in(alloc, clients, now);
         let mut pages = Pages {
             alloc,
             meter: &self.meter,
             addresses: &self.addresses,
             process: &self.process,
         };
-        guests.turn_all(&mut pages, now) || has_come
+        clients.turn_all(&mut pages, now) || has_come
     }
 
     /// Takes in one client, if there is room and one waits. One for which there is no memory is
     /// closed.
-    fn take_in(&self, alloc: Global, guests: &mut Guests, now: Instant) -> bool {
-        if !guests.has_room(now) {
+    fn take_in(&self, alloc: Global, clients: &mut PageClients, now: Instant) -> bool {
+        if !clients.has_room(now) {
             return false;
         }
         let Ok((stream, _)) = self.listener.accept() else {
             return false;
         };
-        if let Ok(guest) = PageClient::new(alloc, stream, now) {
-            guests.add(guest);
+        if let Ok(client) = PageClient::new(alloc, stream, now) {
+            clients.add(client);
         }
         true
     }

@@ -6,6 +6,7 @@ pub mod DataLemmas
 pub mod FirstLineLemmas
 pub mod GivesLemmas
 pub mod JoinedLemmas
+pub mod KeyHashLemmas
 pub mod KeyLemmas
 pub mod LineLemmas
 pub mod ListedLemmas
@@ -13,7 +14,6 @@ pub mod ListingFaultLemmas
 pub mod ListingLemmas
 pub mod ListingReads
 pub mod ListingTexts
-pub mod MarkLemmas
 pub mod NeverLemmas
 pub mod PartLemmas
 pub mod PlaceLemmas

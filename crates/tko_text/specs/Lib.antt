@@ -5,11 +5,11 @@ pub mod DataEnds
 pub mod FirstLines
 pub mod Heads
 pub mod HeldKeys
+pub mod KeyHashes
 pub mod Keys
 pub mod Limits
 pub mod Lines
 pub mod ListingFaults
-pub mod Marks
 pub mod Numbers
 pub mod Parsed
 pub mod Places

@@ -2,7 +2,7 @@
 ghost use Rattle.std.specs.Prelude.{◌≡◌, ◌≤◌, ◌<◌, ◌-◌, ◌++◌, [], ◌∷◌, All, IfOk, OnErr, OnOk, drop, length};
 ghost use Rattle.std.specs.List.{list_any};
 ghost use Rattle.std.specs.Str.{bytes_eq};
-ghost use Rattle.tko_text.specs.Marks.{AreSeen, mark, mark_step, marked_bytes};
+ghost use Rattle.tko_text.specs.KeyHashes.{AreSeen, hash_step, hashed_bytes, key_hash};
 
 use super::place::ValuePlace;
 use super::reader::Head;
@@ -16,13 +16,13 @@ const FLAGS: usize = 8;
 /// How many places there is room for at first, at most.
 const ROOM: usize = 64;
 
-/// How many of its last bytes the mark of a key is made of.
-const MARKED: usize = 16;
+/// How many of its last bytes a key is hashed by.
+const HASHED_BYTES: usize = 16;
 
-/// What a mark is multiplied by for each byte: that of FNV-1a.
-const PRIME: u32 = 16_777_619;
+/// What a hash is multiplied by for each byte: the prime of FNV-1a.
+const FNV_PRIME: u32 = 16_777_619;
 
-/// The places of the values that were read so far, and a flag for each mark that one of their keys
+/// The places of the values that were read so far, and a flag for each hash that one of their keys
 /// may have. So a key that is new is seldom compared with the others. Contracts see the places.
 #[derive(Drop)]
 pub(super) struct Places {
@@ -32,7 +32,7 @@ pub(super) struct Places {
 
 impl Model for Places {
     ghost use Rattle.std.specs.Prelude.{List};
-    ghost use Rattle.tko_text.specs.Marks.{AreSeen};
+    ghost use Rattle.tko_text.specs.KeyHashes.{AreSeen};
     ghost use Rattle.tko_text.specs.declared.response.place.ValuePlace.{ValuePlace};
 
     ghost Value = { List ValuePlace };
@@ -57,7 +57,7 @@ impl Places {
     pub(super) fn has(&self, key: &[u8]) -> bool
         ensures { result ≡ list_any (λ place. bytes_eq place.key key.now) self.now }
     {
-        if !self.seen[mark_of(key) % self.seen.len()] {
+        if !self.seen[key_hash_of(key) % self.seen.len()] {
             return false;
         }
         self.places.iter().any(|place| place.key.as_bytes() == key)
@@ -74,7 +74,7 @@ impl Places {
         ensures { OnOk result (self.new
             ≡ self.old ++ (record { key = key.now; head = head; begin = begin }) ∷ []) }
     {
-        let flag = mark_of(key.as_bytes()) % self.seen.len();
+        let flag = key_hash_of(key.as_bytes()) % self.seen.len();
         let key = key.copy(alloc)?;
         self.places.push(ValuePlace { key, head, begin })?;
         self.seen[flag] = true;
@@ -90,26 +90,26 @@ impl Places {
     }
 }
 
-/// A number that is the same for equal keys.
-#[tactic(auto, unfolding(crate::specs::Marks::mark))]
-fn mark_of(key: &[u8]) -> usize
-    ensures { result ≡ mark key.now }
+/// The hash of a key, which is the same for equal keys.
+#[tactic(auto, unfolding(crate::specs::KeyHashes::key_hash))]
+fn key_hash_of(key: &[u8]) -> usize
+    ensures { result ≡ key_hash key.now }
 {
     last_bytes(key)
         .iter()
-        .fold(0, |mark, byte| with_byte(mark, *byte)) as usize
+        .fold(0, |hash, byte| with_byte(hash, *byte)) as usize
 }
 
-/// The bytes that a key's mark is made of.
+/// The bytes that a key is hashed by.
 fn last_bytes(key: &[u8]) -> &[u8]
-    ensures { result.now ≡ drop (length key.now - marked_bytes) key.now }
+    ensures { result.now ≡ drop (length key.now - hashed_bytes) key.now }
 {
-    key.split_at(key.len().saturating_sub(MARKED)).1
+    key.split_at(key.len().saturating_sub(HASHED_BYTES)).1
 }
 
-/// The mark with one more byte.
-fn with_byte(mark: u32, byte: u8) -> u32
-    ensures { result ≡ mark_step mark byte }
+/// The hash with one more byte.
+fn with_byte(hash: u32, byte: u8) -> u32
+    ensures { result ≡ hash_step hash byte }
 {
-    (mark ^ u32::from(byte)).wrapping_mul(PRIME)
+    (hash ^ u32::from(byte)).wrapping_mul(FNV_PRIME)
 }
