@@ -10,10 +10,10 @@ ghost use Rattle.tko_accept.specs.Allotments.{most_of_worker, needed_by_events, 
 const OTHERS: u64 = 16;
 
 /// How many accepted connections may wait for a worker that serves one client at a time.
-pub const WAITING: u64 = 64;
+pub const MAX_QUEUED: u64 = 64;
 
 /// How many descriptors the system's resolver opens for a worker while it looks up a host's name.
-const LOOK_UP: u64 = 2;
+const LOOK_UP_FILES: u64 = 2;
 
 /// How many descriptors an event-driven worker has open beside its connections to the servers: its
 /// poll, its waker, and a new connection that is about to replace another.
@@ -47,8 +47,8 @@ impl Allotment {
     {
         let needed = needed_files(threads, servers);
         let (workers, clients) = match limit {
-            Some(limit) => fitting(limit, threads, u64::from(servers) + LOOK_UP),
-            None => (threads, u64::from(threads) + WAITING),
+            Some(limit) => fitting(limit, threads, u64::from(servers) + LOOK_UP_FILES),
+            None => (threads, u64::from(threads) + MAX_QUEUED),
         };
         Allotment {
             needed,
@@ -91,10 +91,10 @@ impl Allotment {
 fn needed_files(threads: u32, servers: u32) -> u64
     ensures { result ≡ needed_files threads servers }
 {
-    let each = u64::from(servers) + LOOK_UP + 1;
+    let each = u64::from(servers) + LOOK_UP_FILES + 1;
     u64::from(threads)
         .saturating_mul(each)
-        .saturating_add(OTHERS + WAITING)
+        .saturating_add(OTHERS + MAX_QUEUED)
 }
 
 /// How many descriptors event-driven workers with this many clients have open at most.
@@ -117,7 +117,7 @@ fn fitting(limit: u64, threads: u32, each: u64) -> (u32, u64)
 {
     let free = limit.saturating_sub(OTHERS);
     let workers = number_of_workers(free, threads, each);
-    let clients = number_of_clients(free, workers, each, u64::from(workers) + WAITING);
+    let clients = number_of_clients(free, workers, each, u64::from(workers) + MAX_QUEUED);
     (workers, clients)
 }
 

@@ -22,7 +22,7 @@ mod room;
 mod way;
 
 pub use accepting::{AcceptEnd, Entrance, accept_all};
-pub use allotment::{Allotment, WAITING};
+pub use allotment::{Allotment, MAX_QUEUED};
 pub use clients::{AcceptedClient, Clients};
 pub use first_asks::{FirstAsk, FirstAsks, first_asks_of};
 pub use listening::Listening;

@@ -20,7 +20,7 @@ const INVALID: i32 = 22;
 const NO_SOCKET: i32 = 88;
 
 /// For how many milliseconds an accept waits for a connection.
-const PATIENCE: u64 = 100;
+const ACCEPT_PAUSE: u64 = 100;
 
 /// How many connections may wait to be accepted, unless the system has a lower limit.
 const BACKLOG: i32 = 1_024;
@@ -28,7 +28,7 @@ const BACKLOG: i32 = 1_024;
 /// Why an accept gave no connection.
 #[derive(Clone, Copy, Debug, PartialEq, Eq)]
 pub(crate) enum AcceptStop {
-    /// No connection came within `PATIENCE`.
+    /// No connection came within `ACCEPT_PAUSE`.
     Nobody,
     /// A client closed its connection before it was accepted.
     Aborted,
@@ -50,7 +50,7 @@ pub struct Listening<'a> {
 
 impl<'a> Listening<'a> {
     /// Lets `BACKLOG` connections wait to be accepted, and limits how long an accept waits for one
-    /// to `PATIENCE`. A setting that the system refuses stays as it was: an accept without that
+    /// to `ACCEPT_PAUSE`. A setting that the system refuses stays as it was: an accept without that
     /// limit waits until a connection comes.
     pub fn new(listener: &'a TcpListener) -> Listening<'a>
         ensures { (result.accepted ≡ 0) × (result.is_broken ≡ false) }
@@ -94,7 +94,7 @@ impl<'a> Listening<'a> {
 /// the socket, so that it can be set through a second handle.
 fn limit_accepts(listener: &TcpListener) -> io::Result<()> {
     let handle = TcpStream::from(OwnedFd::from(listener.try_clone()?));
-    handle.set_read_timeout(Some(Duration::from_millis(PATIENCE)))
+    handle.set_read_timeout(Some(Duration::from_millis(ACCEPT_PAUSE)))
 }
 
 /// Why an accept failed.

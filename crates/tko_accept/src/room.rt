@@ -7,7 +7,7 @@ use std::time::Duration;
 use tko_metrics::Meter;
 
 /// For how many milliseconds the thread that accepts waits for a client to leave.
-const PAUSE: u64 = 100;
+const ROOM_PAUSE: u64 = 100;
 
 /// How many values the low half of the counter of clients has, on which a thread waits.
 const LOW_HALF: u64 = 1 << 32;
@@ -33,7 +33,7 @@ impl Room {
     }
 
     /// Returns whether one more client may be connected. If not, it first waits until a client
-    /// leaves, but at most `PAUSE`.
+    /// leaves, but at most `ROOM_PAUSE`.
     pub(crate) fn has_place<R: Wait>(&self, rt: &R) -> bool {
         let connected = self.connected.load(Ordering::SeqCst);
         if connected < self.most {
@@ -43,14 +43,14 @@ impl Room {
         false
     }
 
-    /// Waits until a client leaves, but at most `PAUSE`.
+    /// Waits until a client leaves, but at most `ROOM_PAUSE`.
     pub(crate) fn wait<R: Wait>(&self, rt: &R) {
         self.wait_while(rt, self.connected.load(Ordering::SeqCst));
     }
 
-    /// Waits while the number of clients is still `connected`, but at most `PAUSE`.
+    /// Waits while the number of clients is still `connected`, but at most `ROOM_PAUSE`.
     fn wait_while<R: Wait>(&self, rt: &R, connected: u64) {
-        let pause = Duration::from_millis(PAUSE);
+        let pause = Duration::from_millis(ROOM_PAUSE);
         let low = connected % LOW_HALF;
         self.connected.park_timeout(rt, low as u32, pause);
     }

@@ -11,9 +11,13 @@ use Rattle.tko_links.specs.declared.scripted.Script.TheVariants as script
 use Rattle.tko_commands.specs.declared.outcomes.OutcomesFault.{OutcomesFault}
 use Rattle.tko_commands.specs.declared.outcomes.OutcomesFault.TheVariants as fault
 
+-- the byte `,`
+abbrev pub comma : ℕ
+comma = 44
+
 -- the words of a list, split at each comma; the empty text has none
 abbrev pub words_of : List ℕ → List (List ℕ)
-words_of list = if length list == 0 then [] else slice_split (λ byte. byte == 44) list
+words_of list = if length list == 0 then [] else slice_split (λ byte. byte == comma) list
 
 -- the texts that references point to
 abbrev pub texts_pointed_to : List (Bor (List ℕ)) → List (List ℕ)

@@ -11,7 +11,7 @@ use std::time::Clock;
 use tko_metrics::Meter;
 
 /// How many events wait for the reader at most; more are counted and lost.
-pub(crate) const WAITING: usize = 4096;
+pub(crate) const MAX_PENDING: usize = 4096;
 
 /// How often a send is tried: beside another thread's send a channel with room may refuse one.
 const TRIES: u32 = 16;
@@ -36,7 +36,7 @@ pub struct Log {
 
 /// A log and its reader.
 pub fn open(alloc: Global) -> Result<(Log, LogReader), AllocError> {
-    let (sender, receiver) = bounded(alloc, WAITING)?;
+    let (sender, receiver) = bounded(alloc, MAX_PENDING)?;
     let shared = Arc::new(
         alloc,
         SharedLog {

@@ -3,7 +3,7 @@
 use crate::WorkerLog;
 use crate::event::{Cause, LogEvent, ServerChange, What};
 use crate::journal::Journal;
-use crate::log::{WAITING, open};
+use crate::log::{MAX_PENDING, open};
 use std::alloc::{AllocError, Global};
 use std::sync::atomic::Ordering;
 use tko_links::{ExchangeNoMemory, Outcome};
@@ -86,10 +86,10 @@ fn a_line_for_each_event(rt: HostRuntime) -> Result<(), AllocError> {
 #[test]
 fn an_event_without_room_is_lost_and_counted(rt: HostRuntime) -> Result<(), AllocError> {
     let (log, reader) = open(rt.alloc())?;
-    for _ in 0..WAITING + 3 {
+    for _ in 0..MAX_PENDING + 3 {
         log.tell(&rt, What::Started);
     }
-    assert_eq!(&rt; reader.receiver.len(), WAITING);
+    assert_eq!(&rt; reader.receiver.len(), MAX_PENDING);
     assert_eq!(&rt; reader.shared.lost.load(Ordering::SeqCst), 3);
     Ok(())
 }

@@ -58,9 +58,13 @@ pub data Picks (server : ℕ) : List DueKey → List ℕ → List DueKey → Typ
 abbrev pub line_bound : ℕ
 line_bound = 65536
 
+-- the bytes of such a line without its keys: `gets` and CR LF
+abbrev pub line_frame : ℕ
+line_frame = 6
+
 -- how many bytes a line for these keys has at most: `gets`, a space and each key, and CR LF
 abbrev pub line_length : List (List ℕ) → ℕ
-line_length keys = 6 + sum_by (λ key. 1 + length key) keys
+line_length keys = line_frame + sum_by (λ key. 1 + length key) keys
 
 -- none of these keys is there twice
 abbrev pub AreDistinctKeys : List (List ℕ) → Type 0

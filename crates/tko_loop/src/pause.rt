@@ -12,10 +12,10 @@ use tko_port::Talking;
 use tko_worker::{EventWorker, Outlook};
 
 /// The longest wait, in milliseconds. A turn without events follows it, for what goes by the clock.
-const IDLE: u64 = 100;
+const IDLE_PAUSE: u64 = 100;
 
 /// The longest wait while the addresses of a server are looked up.
-const LOOK_UP: u64 = 10;
+const LOOK_UP_PAUSE: u64 = 10;
 
 /// How many milliseconds the poll may wait after a turn of this moment, at whose end this lies
 /// ahead of the worker, and more clients may wait to be taken in or not. A connection that is
@@ -61,15 +61,15 @@ fn longest_wait<P, T: Talking<P> + Drop, K: Drop>(
         return 0;
     }
     if !ahead.wants {
-        return IDLE;
+        return IDLE_PAUSE;
     }
-    let mut most = IDLE;
+    let mut most = IDLE_PAUSE;
     for server in 0..servers.len() {
         if worker.wants(server) {
             if !servers[server].is_looked_up() {
                 return 0;
             }
-            most = LOOK_UP;
+            most = LOOK_UP_PAUSE;
         }
     }
     most

@@ -28,10 +28,18 @@ worker_sample metric worker number =
     (name_of metric ++ codes "{worker=\"" ++ decimal worker ++ codes "\"} ")
     ++ (decimal number ++ codes "\n")
 
--- a byte between the quotes of a label: a quote (34) and a backslash (92) have a backslash before
--- them
+-- the byte `"`
+abbrev pub quote : ℕ
+quote = 34
+
+-- the byte `\`
+abbrev pub backslash : ℕ
+backslash = 92
+
+-- a byte between the quotes of a label: a quote and a backslash have a backslash before them
 abbrev pub escaped_byte : ℕ → List ℕ
-escaped_byte byte = if byte == 34 || byte == 92 then 92 ∷ byte ∷ [] else byte ∷ []
+escaped_byte byte =
+    if byte == quote || byte == backslash then backslash ∷ byte ∷ [] else byte ∷ []
 
 -- a sample of the server of this address, up to the end of the address
 unfoldable pub sample_front : Metric → List ℕ → List ℕ

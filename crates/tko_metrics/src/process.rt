@@ -9,6 +9,12 @@ use std::io::{Read, Seek};
 use std::os::fd::AsRawFd;
 use tko_bytes::{SpacedWords, number};
 
+/// The bytes of a KiB.
+const KIBIBYTE: u64 = 1024;
+
+/// How many names each directory has for itself and the one above: `.` and `..`.
+const DOTS: u64 = 2;
+
 /// Where the system tells the memory of the process.
 const STATUS: &str = "/proc/self/status";
 
@@ -66,7 +72,7 @@ fn resident_in(text: &[u8]) -> Option<u64> {
     text.split(|byte| *byte == b'\n')
         .find_map(|line| line.strip_prefix(RESIDENT))
         .and_then(|words| number(SpacedWords::of(words).next()?, u64::MAX))
-        .map(|kibibytes| kibibytes.saturating_mul(1024))
+        .map(|kibibytes| kibibytes.saturating_mul(KIBIBYTE))
 }
 
 /// How many names an open directory has, other than `.` and `..`.
@@ -80,7 +86,7 @@ fn names_in(directory: &File) -> u64 {
         }
         names = names.saturating_add(ends_in(&piece[..count]));
     }
-    names.saturating_sub(2)
+    names.saturating_sub(DOTS)
 }
 
 /// How many names end in this piece of a list.

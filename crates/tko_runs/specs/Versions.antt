@@ -18,6 +18,10 @@ header_lines One = 7
 header_lines Two = 8
 header_lines Three = 8
 
+-- the most that a version has
+abbrev pub most_header_lines : ℕ
+most_header_lines = 8
+
 -- the version in whose form a claimed run is printed, which no schedule names
 abbrev pub version_of : Settings → Version
 version_of s = if length s.limits == 1 then One else Two

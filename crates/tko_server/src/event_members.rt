@@ -8,7 +8,7 @@ ghost use Rattle.tko_server.specs.Runs.{tracker_settings};
 use crate::Options;
 use crate::members::WorkersShared;
 use std::alloc::Global;
-use tko_accept::{ClientPlace, FirstAsk, WAITING};
+use tko_accept::{ClientPlace, FirstAsk, MAX_QUEUED};
 use tko_bytes::NoMemory;
 use tko_desk::Share;
 use tko_event_threads::EventParts;
@@ -149,7 +149,7 @@ fn open_way<R: IoRuntime>(
     rt: &R,
     alloc: Global,
 ) -> Result<(LoopEntry<ClientPlace>, Handover<ClientPlace>), NoMemory> {
-    match LoopEntry::open(rt, alloc, WAITING as usize) {
+    match LoopEntry::open(rt, alloc, MAX_QUEUED as usize) {
         Ok(ways) => Ok(ways),
         Err(_) => Err(NoMemory),
     }

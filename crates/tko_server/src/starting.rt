@@ -12,7 +12,7 @@ use crate::members::{ServerMember, WorkersShared};
 use crossbeam_channel::bounded;
 use std::alloc::Global;
 use std::sync::Arc;
-use tko_accept::{FirstAsks, OneQueue, Room, WAITING, first_asks_of};
+use tko_accept::{FirstAsks, MAX_QUEUED, OneQueue, Room, first_asks_of};
 use tko_bytes::NoMemory;
 use tko_desk::{Desk, Share};
 use tko_events::Log;
@@ -87,7 +87,7 @@ fn blocking_crew<'a, 'o, N: Named, R: IoRuntime>(
 {
     let options = shared.options;
     let threads = options.settings.threads;
-    let (clients, accepted) = bounded(alloc, WAITING as usize)?;
+    let (clients, accepted) = bounded(alloc, MAX_QUEUED as usize)?;
     let (first_ask, first_asks) = first_asks_of(alloc, threads)?;
     let passes = lend_all(rt, alloc, desk, threads)?;
     let members = shared.members(rt, alloc, passes, shares, &accepted, &first_ask)?;

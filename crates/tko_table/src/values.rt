@@ -2,6 +2,7 @@
 ghost use Rattle.std.specs.Prelude.{◌≡◌, ◌==◌, ◌+◌, ◌<◌, ◌≤◌, ◌^◌};
 ghost use Rattle.tko_word.specs.Words.{IsMark, IsWord, health_word, one_slot, server_in, slot_over_mark, stamp_end};
 ghost use Rattle.tko_model.specs.Groups.{group_of, groups};
+ghost use Rattle.tko_model.specs.Limits.{max_groups};
 ghost use Rattle.tko_table.specs.Rule.{health_place, soft_place};
 ghost use Rattle.tko_table.specs.Steps.{IsWritable};
 
@@ -32,7 +33,7 @@ pub(crate) fn soft_place_in(settings: &Settings, group: usize) -> usize
 
 /// How many words there are.
 pub(crate) fn count_words(settings: &Settings) -> usize
-    requires { groups settings.now ≤ 256 }
+    requires { groups settings.now ≤ max_groups }
     ensures { result ≡ settings.now.servers + 1 + groups settings.now }
 {
     soft_place_in(settings, settings.groups())
@@ -40,7 +41,7 @@ pub(crate) fn count_words(settings: &Settings) -> usize
 
 /// The place of the soft word of a server's group.
 pub(crate) fn soft_place_of(settings: &Settings, server: usize) -> usize
-    requires { groups settings.now ≤ 256 }
+    requires { groups settings.now ≤ max_groups }
     ensures { result ≡ soft_place settings.now (group_of settings.now server) }
 {
     soft_place_in(settings, settings.group_of(server))

@@ -18,6 +18,9 @@ pub(crate) enum DataEnd {
     Wrong(usize),
 }
 
+/// The bytes of the CR LF behind data.
+pub(crate) const END_LEN: usize = 2;
+
 /// The end of `size` bytes of data.
 pub(crate) fn data_end(bytes: &[u8], size: usize) -> DataEnd
     requires { size ≤ data_limit }
@@ -38,5 +41,5 @@ pub(crate) fn data_end(bytes: &[u8], size: usize) -> DataEnd
     if bytes[size + 1] == b'\n' {
         return DataEnd::Whole;
     }
-    DataEnd::Wrong(size + 2)
+    DataEnd::Wrong(size + END_LEN)
 }

@@ -8,7 +8,7 @@ ghost use Rattle.tko_text.specs.Parsed.{request_with};
 ghost use Rattle.tko_text.specs.States.{HasData, IsDataState, IsState, Steps, at, reading_of, whole_request};
 
 use crate::buffer::Buffer;
-use crate::data::{DataEnd, data_end};
+use crate::data::{DataEnd, END_LEN, data_end};
 use crate::line::{Header, LINE_LIMIT, ParsedLine, read_line};
 use crate::pending::{Pending, request_with};
 use crate::state::{ReaderState, skip, skip_line};
@@ -65,7 +65,7 @@ fn read(
         }
         ParsedLine::Refused(fault, Some(size)) => {
             buffer.consume(len + 1);
-            *state = skip(buffer, u128::from(size) + 2);
+            *state = skip(buffer, u128::from(size) + END_LEN as u128);
             Ok(Some(Item::Fault(fault)))
         }
         ParsedLine::AwaitsData(header) => read_data(alloc, state, buffer, len, header),
@@ -98,7 +98,7 @@ fn read_data(
         }
         DataEnd::Whole => {
             let data = Data::new(Vec::from_slice(alloc, &bytes[..header.size])?);
-            buffer.consume(len + 1 + header.size + 2);
+            buffer.consume(len + 1 + header.size + END_LEN);
             Ok(Some(Item::Request(request_with(header, data))))
         }
         DataEnd::WrongLine(count) => {
@@ -130,7 +130,7 @@ fn pending_of(
     ensures err { OnErr result (buffer.new ≡ buffer.old) }
 {
     let line = Vec::from_slice(alloc, buffer.front(len))?;
-    let mut data = Vec::with_capacity(alloc, header.size + 2)?;
+    let mut data = Vec::with_capacity(alloc, header.size + END_LEN)?;
     data.extend_from_slice(buffer.after(len))?;
     let all = buffer.len();
     buffer.consume(all);
@@ -156,7 +156,7 @@ pub(crate) fn next_data(
     match data_end(&pending.data, pending.header.size) {
         DataEnd::Open => Ok(None),
         DataEnd::Whole => {
-            buffer.push(&pending.data[pending.header.size + 2..])?;
+            buffer.push(&pending.data[pending.header.size + END_LEN..])?;
             Ok(request_of(replace(state, ReaderState::Line)))
         }
         DataEnd::WrongLine(count) => {

@@ -4,6 +4,7 @@ ghost use Rattle.tko_runs.specs.Limits.{max_commands};
 ghost use Rattle.tko_bytes.specs.Lines.{lines_of};
 ghost use Rattle.tko_runs.specs.ScheduleLines.{command_line};
 ghost use Rattle.tko_runs.specs.Schedules.{commands_of};
+ghost use Rattle.tko_runs.specs.Versions.{most_header_lines};
 
 use crate::{Command, ScheduleFault};
 use std::alloc::Global;
@@ -18,7 +19,7 @@ pub(crate) fn read_commands(
     before: u32,
     text: &[u8],
 ) -> Result<Vec<Command>, ScheduleFault>
-    requires { before ≤ 8 }
+    requires { before ≤ most_header_lines }
     ensures ok { IfOk result (λ commands.
         commands_of before (lines_of text.now) ≡ Ok commands.items) }
     ensures few { IfOk result (λ commands. length commands.items ≤ max_commands) }
@@ -46,7 +47,7 @@ fn keep(commands: &mut Vec<Command>, command: Command) -> Result<(), NoMemory>
 /// The command of the line at this place after so many header lines.
 fn command_at(before: u32, place: usize, line: &[u8]) -> Result<Command, ScheduleFault>
     requires place { place ≤ max_commands }
-    requires before { before ≤ 8 }
+    requires before { before ≤ most_header_lines }
     ensures few { IfOk result (λ command. place < max_commands) }
     ensures ok { IfOk result (λ command. command_line line.now ≡ Some command) }
     ensures line { IfErr result (λ fault. fault ≡ ScheduleFault.Line (place + before + 1)) }

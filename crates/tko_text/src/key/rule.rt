@@ -5,6 +5,9 @@ ghost use Rattle.tko_text.specs.Keys.{IsKey, is_key};
 /// The longest key, in bytes.
 const KEY_LIMIT: usize = 250;
 
+/// The control character DEL.
+const DELETE: u8 = 127;
+
 /// Whether these bytes are a key.
 pub(crate) fn is_key(bytes: &[u8]) -> bool
     ensures key { IsTrue result ↔ IsKey bytes.now }
@@ -16,5 +19,5 @@ pub(crate) fn is_key(bytes: &[u8]) -> bool
 fn obeys_rule(bytes: &[u8]) -> bool
     ensures { IsTrue result ↔ IsKey bytes.now }
 {
-    (1..=KEY_LIMIT).contains(&bytes.len()) && bytes.iter().all(|b| *b > b' ' && *b != 127)
+    (1..=KEY_LIMIT).contains(&bytes.len()) && bytes.iter().all(|b| *b > b' ' && *b != DELETE)
 }
