@@ -2,7 +2,7 @@
 use Rattle.std.proofs.Common.{ℕ, List, refl, Err, None}
 use Rattle.tko_text.specs.declared.request.Request.{Request}
 use Rattle.tko_text.specs.declared.response.fault.ReadFault.TheVariants.{Memory}
-use Rattle.tko_text.specs.Responses.{ReadsResponse}
+use Rattle.tko_text.specs.ResponseReads.{ReadsResponse}
 use Rattle.tko_links.specs.Scripted.{ComesOfBytes}
 
 -- memory may run out, whatever the bytes are

@@ -6,7 +6,7 @@ use Rattle.tko_bytes.specs.Lines.{HasNoEnd}
 use Rattle.tko_text.specs.declared.request.Request.{Request}
 use Rattle.tko_text.specs.declared.response.fault.ReadFault.TheVariants as read_fault
 use Rattle.tko_text.specs.ResponseLengths.{IsLeastLength}
-use Rattle.tko_text.specs.Responses.{NoResponse, ReadsResponse}
+use Rattle.tko_text.specs.ResponseReads.{NoResponse, ReadsResponse}
 use Rattle.tko_text.proofs.ResponseLengthLemmas.{least_more, least_none, no_response_more, no_response_none, no_response_short}
 use Rattle.tko_links.specs.Incoming.{HasPieceCome, IsResponseAwaited, ResponseSoFar, nothing_yet}
 

@@ -6,7 +6,7 @@ use Rattle.tko_text.specs.declared.request.Request.{Request}
 use Rattle.tko_text.specs.declared.response.Response.{Response}
 use Rattle.tko_text.specs.declared.response.fault.ReadFault.TheVariants as read_fault
 use Rattle.tko_text.specs.ResponseLengths.{IsLeastLength}
-use Rattle.tko_text.specs.Responses.{NoResponse, ReadsResponse}
+use Rattle.tko_text.specs.ResponseReads.{NoResponse, ReadsResponse}
 use Rattle.tko_links.specs.declared.fault.LinkFault.{LinkFault}
 use Rattle.tko_links.specs.declared.fault.LinkFault.TheVariants as fault
 use Rattle.tko_links.specs.declared.wire.WireFault.TheVariants as wire_fault

@@ -7,7 +7,7 @@ use Rattle.tko_text.specs.declared.request.Request.TheVariants.{Version as versi
 use Rattle.tko_text.specs.declared.response.Response.{Response}
 use Rattle.tko_text.specs.declared.response.fault.ReadFault.TheVariants as read_fault
 use Rattle.tko_text.specs.Requests.{request_text}
-use Rattle.tko_text.specs.Responses.{NoResponse, ReadsResponse}
+use Rattle.tko_text.specs.ResponseReads.{NoResponse, ReadsResponse}
 use Rattle.tko_links.specs.declared.links.Outcome.{Outcome}
 use Rattle.tko_links.specs.declared.links.Outcome.TheVariants as outcome
 use Rattle.tko_links.specs.declared.wire.WireFault.TheVariants as wire_fault

@@ -7,7 +7,7 @@ use Rattle.tko_text.specs.declared.response.fault.ReadFault.{ReadFault}
 use Rattle.tko_text.specs.declared.response.fault.ReadFault.TheVariants as fault
 use Rattle.tko_text.specs.declared.response.Response.{Response}
 use Rattle.tko_text.specs.Requests.{request_text}
-use Rattle.tko_text.specs.Responses.{ReadsResponse}
+use Rattle.tko_text.specs.ResponseReads.{ReadsResponse}
 use Rattle.tko_links.specs.declared.links.Outcome.{Outcome}
 use Rattle.tko_links.specs.declared.links.Outcome.TheVariants as outcome
 use Rattle.tko_links.specs.declared.scripted.Script.{Script}

@@ -1,6 +1,6 @@
 //! The bytes of one response, as a connection gives them.
 ghost use Rattle.std.specs.Prelude.{◌≡◌, ◌<◌, ◌≤◌, ◌^◌, [], IfOk, OnErr, OnOk, length, take, true, vec_len};
-ghost use Rattle.tko_text.specs.Responses.{ReadsResponse};
+ghost use Rattle.tko_text.specs.ResponseReads.{ReadsResponse};
 ghost use Rattle.tko_links.specs.ExchangeParts.{ReadsPiece};
 
 use crate::fault::LinkFault;

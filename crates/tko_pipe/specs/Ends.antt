@@ -3,7 +3,7 @@ use Rattle.std.specs.Prelude.{◌≡◌, ◌⊎◌, ℕ, Bool, true, false, List
 use Rattle.tko_text.specs.declared.request.Request.{Request}
 use Rattle.tko_text.specs.declared.response.Response.{Response}
 use Rattle.tko_text.specs.declared.response.fault.ReadFault.TheVariants as fault
-use Rattle.tko_text.specs.Responses.{ReadsResponse}
+use Rattle.tko_text.specs.ResponseReads.{ReadsResponse}
 use Rattle.tko_pipe.specs.declared.waiter.Asker.{Asker}
 use Rattle.tko_pipe.specs.declared.waiter.Waiter.{Waiter}
 use Rattle.tko_pipe.specs.declared.fates.Fate.{Fate}

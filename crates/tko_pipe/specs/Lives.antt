@@ -2,7 +2,7 @@
 use Rattle.std.specs.Prelude.{◌≡◌, ◌≤◌, ◌⊎◌, ℕ, List, [], ◌∷◌, ◌++◌, length, map, flat_map, All, Option, Some, None}
 use Rattle.tko_model.specs.Records.{Gains}
 use Rattle.tko_text.specs.Requests.{request_text}
-use Rattle.tko_text.specs.Responses.{IsResponse}
+use Rattle.tko_text.specs.ResponseReads.{IsResponse}
 use Rattle.tko_pipe.specs.declared.waiter.Waiter.{Waiter}
 use Rattle.tko_pipe.specs.declared.link.Link.{Link}
 use Rattle.tko_pipe.specs.declared.link.Link.TheVariants.{Connecting, Connected, Shut}

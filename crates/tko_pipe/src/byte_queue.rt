@@ -2,7 +2,7 @@
 ghost use Rattle.std.specs.Prelude.{◌≡◌, ◌<◌, ◌≤◌, ◌^◌, ◌++◌, ℕ, [], ◌↔◌, IsTrue, drop, length, take, IfErr, IfOk, IfSome, Ok, Err, OnErr, OnOk};
 ghost use Rattle.tko_text.specs.Requests.{request_text};
 ghost use Rattle.tko_text.specs.ResponseLengths.{IsLeastLength};
-ghost use Rattle.tko_text.specs.Responses.{ReadsResponse};
+ghost use Rattle.tko_text.specs.ResponseReads.{ReadsResponse};
 ghost use Rattle.tko_pipe.specs.Fronts.{IsFront};
 
 use std::alloc::{AllocError, Global};

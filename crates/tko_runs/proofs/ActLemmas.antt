@@ -13,7 +13,8 @@ use Rattle.tko_steps.specs.declared.phase.Phase.TheVariants.{Start, Read, AtThre
 use Rattle.tko_steps.specs.declared.phase.Phase.TheVariants.{Reserving, Holding, Firming, Losing}
 use Rattle.tko_steps.specs.declared.phase.Phase.TheVariants.{Loosening, Loosened, Emptied}
 use Rattle.tko_steps.specs.declared.phase.ThreadState.TheVariants.{InCall}
-use Rattle.tko_steps.specs.Core.{CoreState, abstract_of, drawn_number, owner_of, slots_at}
+use Rattle.tko_steps.specs.Core.{CoreState, abstract_of, drawn_number, slots_at}
+use Rattle.tko_steps.specs.Owners.{owner_of}
 use Rattle.tko_steps.specs.Core.{thread_at}
 use Rattle.tko_steps.specs.Invariant.{IsCore, IsWrite, held_at}
 use Rattle.tko_steps.specs.declared.table.Action.TheVariants.{Exchange}

@@ -13,7 +13,8 @@ use Rattle.tko_runs.proofs.PlayLemmas.{IsRun-played, after_commands-push}
 use Rattle.tko_steps.specs.declared.phase.ThreadState.{ThreadState}
 use Rattle.tko_steps.specs.declared.phase.ThreadState.TheVariants.{NotEnrolled, Idle, InCall}
 use Rattle.tko_steps.specs.Core.{CoreState, after_act, after_step, after_step_from, follows}
-use Rattle.tko_steps.specs.Core.{has_call, thread_at}
+use Rattle.tko_steps.specs.Core.{thread_at}
+use Rattle.tko_steps.specs.Owners.{has_call}
 use Rattle.tko_steps.specs.Steps.{decided_state}
 use Rattle.tko_steps.specs.Invariant.{IsCore}
 use Rattle.tko_steps.specs.Runs.{Step}

@@ -7,7 +7,8 @@ use Rattle.tko_model.specs.declared.state.ServerState.{ServerState}
 use Rattle.tko_runs.specs.States.{wrote}
 use Rattle.tko_runs.specs.Words.{CanLeaveServer, IsWonExchange}
 use Rattle.tko_steps.specs.declared.step.Word.{Word}
-use Rattle.tko_steps.specs.Core.{owner_of, is_call_step}
+use Rattle.tko_steps.specs.Core.{is_call_step}
+use Rattle.tko_steps.specs.Owners.{owner_of}
 use Rattle.tko_steps.specs.Lost.{same_word}
 use Rattle.tko_steps.specs.Steps.{kind_of_exchange}
 

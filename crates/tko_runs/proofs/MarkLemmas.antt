@@ -17,7 +17,7 @@ use Rattle.tko_model.specs.Tracker.{stays, transition}
 use Rattle.tko_model.specs.Looks.{look_reply}
 use Rattle.tko_runs.specs.Words.{CanMark, IsValid}
 use Rattle.tko_steps.specs.declared.step.StepKind.TheVariants as kind
-use Rattle.tko_steps.specs.Core.{owner_of}
+use Rattle.tko_steps.specs.Owners.{owner_of}
 use Rattle.tko_steps.specs.Steps.{kind_of_exchange}
 use Rattle.tko_steps.specs.Invariant.{IsFoundBy, IsOwnOrUp}
 use Rattle.tko_steps.proofs.RoomLemmas.{stamp-fits}

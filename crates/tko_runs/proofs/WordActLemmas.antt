@@ -17,8 +17,10 @@ use Rattle.tko_steps.specs.declared.step.Word.TheVariants as word
 use Rattle.tko_steps.specs.declared.table.Action.{Action}
 use Rattle.tko_steps.specs.declared.table.Action.TheVariants.{LookAtServer, LookAtSlots, Exchange}
 use Rattle.tko_steps.specs.declared.table.Action.TheVariants.{Reserve, Settle, Loosen, Give}
-use Rattle.tko_steps.specs.Core.{owner_of, Shared, is_call_step, seen_by, shared_after, word_at}
-use Rattle.tko_steps.specs.Core.{CanAct, IsPlace, slots_at}
+use Rattle.tko_steps.specs.Core.{Shared, is_call_step, seen_by, shared_after, word_at}
+use Rattle.tko_steps.specs.Owners.{owner_of}
+use Rattle.tko_steps.specs.Core.{slots_at}
+use Rattle.tko_steps.specs.StepNeeds.{CanAct, IsPlace}
 use Rattle.tko_steps.specs.Steps.{is_done, kind_of_exchange, place_of, step_kind, word_after}
 use Rattle.tko_steps.specs.Table.{same_mark, same_server, same_slots}
 use Rattle.tko_steps.proofs.StepLemmas.{on_one_word}

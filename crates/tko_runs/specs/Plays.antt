@@ -15,7 +15,8 @@ use Rattle.tko_runs.specs.Runs.{Skip, RunData}
 use Rattle.tko_steps.specs.declared.step.BeginFault.{BeginFault}
 use Rattle.tko_steps.specs.declared.step.Stepped.{Stepped}
 use Rattle.tko_steps.specs.declared.step.Stepped.TheVariants.{NoThread, Idle, Did}
-use Rattle.tko_steps.specs.Core.{CoreState, after_begin, after_step, begin_fault, has_call, opened_core, thread_at, reported_by_step}
+use Rattle.tko_steps.specs.Core.{CoreState, after_begin, after_step, begin_fault, opened_core, thread_at, reported_by_step}
+use Rattle.tko_steps.specs.Owners.{has_call}
 use Rattle.tko_steps.specs.Runs.{Begin, Step, Turn}
 
 -- the core, and the events and the skipped turns so far

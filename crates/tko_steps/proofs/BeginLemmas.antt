@@ -15,7 +15,8 @@ use Rattle.tko_steps.specs.declared.phase.Phase.TheVariants.{Start}
 use Rattle.tko_steps.specs.declared.phase.Slots.{Slots}
 use Rattle.tko_steps.specs.declared.phase.ThreadState.{ThreadState}
 use Rattle.tko_steps.specs.declared.phase.ThreadState.TheVariants.{NotEnrolled, Idle, InCall}
-use Rattle.tko_steps.specs.Core.{CoreState, abstract_of, after_enrol, has_number, is_enrolled, no_slots, opened_core, slots_at, thread_at, with_thread}
+use Rattle.tko_steps.specs.Core.{CoreState, abstract_of, after_enrol, no_slots, opened_core, slots_at, thread_at, with_thread}
+use Rattle.tko_steps.specs.Owners.{has_number, is_enrolled}
 use Rattle.tko_steps.specs.Steps.{begun_by}
 use Rattle.tko_steps.specs.Invariant.{IsCore, IsThread, holds_in, is_loose_in}
 use Rattle.tko_steps.proofs.CountLemmas.{bit, counts-same, count_by-replicate, get_or-replicate_same, owner-replicate}

@@ -14,7 +14,8 @@ use Rattle.tko_steps.specs.declared.phase.Phase.TheVariants.{Loosening}
 use Rattle.tko_steps.specs.declared.phase.Slots.{Slots}
 use Rattle.tko_steps.specs.declared.phase.ThreadState.{ThreadState}
 use Rattle.tko_steps.specs.declared.phase.ThreadState.TheVariants.{NotEnrolled, InCall}
-use Rattle.tko_steps.specs.Core.{owner_of, CoreState, abstract_of, has_number, is_enrolled, drawn_number, thread_at}
+use Rattle.tko_steps.specs.Core.{CoreState, abstract_of, drawn_number, thread_at}
+use Rattle.tko_steps.specs.Owners.{owner_of, has_number, is_enrolled}
 use Rattle.tko_steps.specs.Invariant.{IsCore, IsGroup, IsThread, firm_at, held_at, holds, holds_in, is_loose, is_loose_in}
 use Rattle.tko_steps.proofs.CountLemmas.{AreCounts, bit, holds-other, holds-own, in_own, IsOn, loose-other, loose-own, soft-other, soft-own, unread}
 use Rattle.tko_steps.proofs.ThreadLemmas.{count_by-moved, count_by-set_same, number-lt, number-once}

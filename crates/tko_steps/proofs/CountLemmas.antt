@@ -11,7 +11,8 @@ use Rattle.tko_model.proofs.GroupLemmas.{soft_bit}
 use Rattle.tko_steps.specs.declared.phase.Slots.{Slots}
 use Rattle.tko_steps.specs.declared.phase.ThreadState.{ThreadState}
 use Rattle.tko_steps.specs.declared.phase.ThreadState.TheVariants.{NotEnrolled, Idle, InCall}
-use Rattle.tko_steps.specs.Core.{IsOwner, no_slots, slots_at}
+use Rattle.tko_steps.specs.Core.{no_slots, slots_at}
+use Rattle.tko_steps.specs.Owners.{IsOwner}
 use Rattle.tko_steps.specs.Invariant.{holds, holds_at, holds_in, is_loose, is_loose_at, is_loose_in}
 
 -- a server as it is read where none is there

@@ -11,7 +11,9 @@ use Rattle.tko_steps.specs.declared.phase.Phase.{Phase}
 use Rattle.tko_steps.specs.declared.phase.Phase.TheVariants.{Start}
 use Rattle.tko_steps.specs.declared.phase.ThreadState.{ThreadState}
 use Rattle.tko_steps.specs.declared.phase.ThreadState.TheVariants.{NotEnrolled, Idle, InCall}
-use Rattle.tko_steps.specs.Core.{CanAct, CoreState, Shared, has_number, is_enrolled, shared_after, slots_at, word_at}
+use Rattle.tko_steps.specs.Core.{CoreState, Shared, shared_after, slots_at, word_at}
+use Rattle.tko_steps.specs.StepNeeds.{CanAct}
+use Rattle.tko_steps.specs.Owners.{has_number, is_enrolled}
 use Rattle.tko_steps.specs.Invariant.{IsCore, IsThread, holds_in, is_loose_in}
 use Rattle.tko_steps.specs.Steps.{after_first_look, begun_by, place_of, thread_after}
 use Rattle.tko_steps.specs.Table.{action_of}

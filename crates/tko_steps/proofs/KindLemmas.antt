@@ -12,7 +12,8 @@ use Rattle.tko_steps.specs.declared.phase.Phase.TheVariants.{Start, Read, AtThre
 use Rattle.tko_steps.specs.declared.phase.ThreadState.{ThreadState}
 use Rattle.tko_steps.specs.declared.phase.ThreadState.TheVariants.{NotEnrolled, Idle, InCall}
 use Rattle.tko_steps.specs.declared.step.StepKind.TheVariants as kind
-use Rattle.tko_steps.specs.Core.{owner_of, CoreState, Shared, abstract_of, word_at}
+use Rattle.tko_steps.specs.Core.{CoreState, Shared, abstract_of, word_at}
+use Rattle.tko_steps.specs.Owners.{owner_of}
 use Rattle.tko_steps.specs.Invariant.{IsCore, IsFoundBy, IsOwnOrUp, IsPhase, IsThread}
 use Rattle.tko_steps.specs.Kinds.{HasKind, HaveKinds, IsClearedOrHard, IsKindAt, IsReadKind, IsSure, NoneIsLost, can_be_lost}
 use Rattle.tko_steps.specs.Runs.{InEveryRun, Took, World}

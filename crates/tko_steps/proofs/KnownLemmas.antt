@@ -11,7 +11,8 @@ use Rattle.tko_steps.specs.declared.phase.Phase.{Phase}
 use Rattle.tko_steps.specs.declared.phase.Phase.TheVariants.{Start, Read, AtThreshold, Limit, Reserving, Holding, Firming, Losing, Loosening, Loosened, Emptied}
 use Rattle.tko_steps.specs.declared.phase.ThreadState.{ThreadState}
 use Rattle.tko_steps.specs.declared.phase.ThreadState.TheVariants.{NotEnrolled, Idle, InCall}
-use Rattle.tko_steps.specs.Core.{owner_of, drawn_number}
+use Rattle.tko_steps.specs.Core.{drawn_number}
+use Rattle.tko_steps.specs.Owners.{owner_of}
 use Rattle.tko_steps.specs.Invariant.{IsFoundBy, IsPhase, IsThread}
 use Rattle.tko_steps.proofs.CountLemmas.{unread}
 

@@ -19,7 +19,8 @@ use Rattle.tko_steps.specs.declared.table.Action.{Action}
 use Rattle.tko_steps.specs.declared.table.Action.TheVariants.{LookAtServer, LookAtSlots, Exchange, Reserve, Settle, Loosen, Give}
 use Rattle.tko_model.specs.Ranges.{IsWithinRanges}
 use Rattle.tko_steps.specs.Runs.{Turn, Moment, OwnStep, StepTaken, Took, World, run}
-use Rattle.tko_steps.specs.Core.{CanAct, Shared, abstract_of, follows, servers_after, thread_at, word_at, no_slots, slots_at, soft_words_after}
+use Rattle.tko_steps.specs.Core.{Shared, abstract_of, follows, servers_after, thread_at, word_at, no_slots, slots_at, soft_words_after}
+use Rattle.tko_steps.specs.StepNeeds.{CanAct}
 use Rattle.tko_steps.specs.Steps.{place_of, word_after, slots_written}
 use Rattle.tko_steps.specs.Invariant.{IsCore}
 use Rattle.tko_steps.specs.Lost.{IsChangedSince}

@@ -13,7 +13,8 @@ use Rattle.tko_steps.specs.declared.step.Place.TheVariants as place
 use Rattle.tko_steps.specs.declared.step.Word.TheVariants as word
 use Rattle.tko_steps.specs.declared.table.Decision.{Decision}
 use Rattle.tko_steps.specs.declared.table.Decision.TheVariants.{Goes, Answers}
-use Rattle.tko_steps.specs.Core.{CoreState, IsOwnedBy, abstract_of, after_act, drawn_number, follows, found_by, thread_at}
+use Rattle.tko_steps.specs.Core.{CoreState, abstract_of, after_act, drawn_number, follows, found_by, thread_at}
+use Rattle.tko_steps.specs.Owners.{IsOwnedBy}
 use Rattle.tko_steps.specs.Invariant.{IsCore}
 use Rattle.tko_steps.specs.Runs.{Moment, StepTaken, Took, owns_in_past}
 use Rattle.tko_steps.specs.Steps.{decided_answer, decided_state, is_done, is_server, kind_of_exchange, owns_after, place_of, seen_in, step_kind, word_after}

@@ -14,7 +14,8 @@ use Rattle.tko_steps.specs.declared.phase.Phase.TheVariants.{Start, Read, AtThre
 use Rattle.tko_steps.specs.declared.phase.ThreadState.TheVariants.{InCall}
 use Rattle.tko_steps.specs.declared.step.Word.{Word}
 use Rattle.tko_steps.specs.declared.step.Word.TheVariants as word
-use Rattle.tko_steps.specs.Core.{owner_of, IsOwnedBy, Shared, names, shared_after, word_at}
+use Rattle.tko_steps.specs.Core.{Shared, shared_after, word_at}
+use Rattle.tko_steps.specs.Owners.{owner_of, IsOwnedBy, names}
 use Rattle.tko_steps.specs.Invariant.{IsThread}
 use Rattle.tko_steps.specs.Steps.{kind_of_exchange, owned_after, owns_after, place_of}
 use Rattle.tko_steps.specs.Table.{action_of, same_server}

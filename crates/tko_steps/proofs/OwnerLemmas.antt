@@ -16,7 +16,8 @@ use Rattle.tko_steps.specs.declared.phase.ThreadState.TheVariants.{InCall}
 use Rattle.tko_steps.specs.declared.step.StepKind.TheVariants as kind
 use Rattle.tko_steps.specs.declared.table.Decision.{Decision}
 use Rattle.tko_steps.specs.declared.table.Decision.TheVariants.{Goes, Answers}
-use Rattle.tko_steps.specs.Core.{IsOwner, owner_of, abstract_of, follows, names, drawn_number, thread_at, slots_at}
+use Rattle.tko_steps.specs.Core.{abstract_of, follows, drawn_number, thread_at, slots_at}
+use Rattle.tko_steps.specs.Owners.{IsOwner, owner_of, names}
 use Rattle.tko_steps.specs.Steps.{decided_answer, kind_of_exchange}
 use Rattle.tko_steps.specs.Invariant.{IsCore, IsFoundBy}
 use Rattle.tko_steps.specs.Legal.{IsOwnersAnswer}

@@ -7,7 +7,7 @@ use Rattle.tko_steps.specs.declared.phase.Phase.{Phase}
 use Rattle.tko_steps.specs.declared.phase.Phase.TheVariants.{Start, Read, AtThreshold, Limit, Reserving, Holding, Firming, Losing, Loosening, Loosened, Emptied}
 use Rattle.tko_steps.specs.declared.phase.ThreadState.{ThreadState}
 use Rattle.tko_steps.specs.declared.phase.ThreadState.TheVariants.{NotEnrolled, Idle, InCall}
-use Rattle.tko_steps.specs.Core.{IsOwner}
+use Rattle.tko_steps.specs.Owners.{IsOwner}
 use Rattle.tko_steps.specs.Legal.{IsOwnersAnswer}
 use Rattle.tko_steps.specs.Runs.{InEveryRun, OwnStep, World, calls_of, owns_in_past}
 use Rattle.tko_steps.proofs.EveryTurnLemmas.{InFamily-run}

@@ -11,7 +11,8 @@ use Rattle.tko_steps.specs.declared.phase.Slots.{Slots}
 use Rattle.tko_steps.specs.declared.phase.ThreadState.TheVariants.{InCall}
 use Rattle.tko_steps.specs.declared.table.Decision.{Decision}
 use Rattle.tko_steps.specs.declared.table.Decision.TheVariants.{Goes, Answers}
-use Rattle.tko_steps.specs.Core.{owner_of, CoreState, abstract_of, has_number, is_enrolled}
+use Rattle.tko_steps.specs.Core.{CoreState, abstract_of}
+use Rattle.tko_steps.specs.Owners.{owner_of, has_number, is_enrolled}
 use Rattle.tko_steps.specs.Steps.{decided_state}
 use Rattle.tko_steps.specs.Invariant.{IsFoundBy, IsOwnOrUp, IsThread}
 use Rattle.tko_steps.proofs.CountLemmas.{IsOn}

@@ -13,7 +13,8 @@ use Rattle.tko_steps.specs.declared.phase.Slots.{Slots}
 use Rattle.tko_steps.specs.declared.phase.ThreadState.TheVariants.{NotEnrolled, InCall}
 use Rattle.tko_steps.specs.declared.table.Decision.{Decision}
 use Rattle.tko_steps.specs.declared.table.Decision.TheVariants.{Answers}
-use Rattle.tko_steps.specs.Core.{owner_of, CoreState, abstract_of, after_act, slots_at, thread_at}
+use Rattle.tko_steps.specs.Core.{CoreState, abstract_of, after_act, slots_at, thread_at}
+use Rattle.tko_steps.specs.Owners.{owner_of}
 use Rattle.tko_steps.specs.Steps.{decided_state}
 use Rattle.tko_steps.specs.Invariant.{IsCore, IsThread, holds, holds_at, holds_in, is_loose, is_loose_at}
 use Rattle.tko_steps.specs.Table.{goes, lost_try, same_server, same_slots}

@@ -17,7 +17,9 @@ use Rattle.tko_steps.specs.declared.phase.Phase.TheVariants.{Start, Read, AtThre
 use Rattle.tko_steps.specs.declared.phase.ThreadState.TheVariants.{InCall}
 use Rattle.tko_steps.specs.declared.table.Action.{Action}
 use Rattle.tko_steps.specs.declared.table.Action.TheVariants.{LookAtServer, LookAtSlots, Exchange, Reserve, Settle, Loosen, Give}
-use Rattle.tko_steps.specs.Core.{CanAct, CoreState, IsPlace, Shared, drawn_number, is_enrolled, thread_at}
+use Rattle.tko_steps.specs.Core.{CoreState, Shared, drawn_number, thread_at}
+use Rattle.tko_steps.specs.StepNeeds.{CanAct, IsPlace}
+use Rattle.tko_steps.specs.Owners.{is_enrolled}
 use Rattle.tko_steps.specs.Steps.{place_of}
 use Rattle.tko_word.specs.Words.{IsMark, stamp_end}
 use Rattle.tko_steps.specs.Invariant.{IsCore, IsOwnOrUp, IsWrite, firm_at, held_at}

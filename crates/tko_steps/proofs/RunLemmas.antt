@@ -9,7 +9,8 @@ use Rattle.tko_steps.specs.declared.phase.Phase.TheVariants.{Start}
 use Rattle.tko_steps.specs.declared.phase.ThreadState.{ThreadState}
 use Rattle.tko_steps.specs.declared.phase.ThreadState.TheVariants.{NotEnrolled, Idle, InCall}
 use Rattle.tko_steps.specs.Runs.{Turn, InEveryRun, World, happens, start_world}
-use Rattle.tko_steps.specs.Core.{CoreState, abstract_of, drawn_number, names, opened_core, thread_at}
+use Rattle.tko_steps.specs.Core.{CoreState, abstract_of, drawn_number, opened_core, thread_at}
+use Rattle.tko_steps.specs.Owners.{names}
 use Rattle.tko_steps.specs.Steps.{begun_by}
 use Rattle.tko_steps.specs.Invariant.{IsCore, holds_in, is_loose_in}
 use Rattle.tko_steps.specs.Safe.{CountSlots, HasOneResponsible, OwnsItsMarks}

@@ -16,7 +16,8 @@ use Rattle.tko_steps.specs.declared.phase.Phase.{Phase}
 use Rattle.tko_steps.specs.declared.phase.Phase.TheVariants.{Start, Read, AtThreshold, Limit, Reserving, Holding, Firming, Losing, Loosening, Loosened, Emptied}
 use Rattle.tko_steps.specs.declared.phase.ThreadState.{ThreadState}
 use Rattle.tko_steps.specs.declared.phase.ThreadState.TheVariants.{NotEnrolled, Idle, InCall}
-use Rattle.tko_steps.specs.Core.{owner_of, has_number, drawn_number}
+use Rattle.tko_steps.specs.Core.{drawn_number}
+use Rattle.tko_steps.specs.Owners.{owner_of, has_number}
 use Rattle.tko_steps.specs.Invariant.{IsPhase, IsThread, holds_at, holds_in, is_loose_at, is_loose_in}
 use Rattle.tko_steps.proofs.CountLemmas.{bit, unread}
 use Rattle.tko_steps.proofs.ThreadLemmas.{OneEach, has_number-from, one-le-count_by}

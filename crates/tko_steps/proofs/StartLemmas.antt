@@ -19,7 +19,7 @@ use Rattle.tko_steps.specs.declared.phase.Call.{Call}
 use Rattle.tko_steps.specs.declared.phase.Phase.TheVariants.{Read, AtThreshold, Loosening}
 use Rattle.tko_steps.specs.declared.table.Decision.{Decision}
 use Rattle.tko_steps.specs.declared.table.Decision.TheVariants.{Answers}
-use Rattle.tko_steps.specs.Core.{owner_of}
+use Rattle.tko_steps.specs.Owners.{owner_of}
 use Rattle.tko_steps.specs.Invariant.{IsFoundBy, IsUnmarkedUnworn, IsWrite}
 use Rattle.tko_steps.specs.Table.{from_start, goes, puts, sets_out}
 

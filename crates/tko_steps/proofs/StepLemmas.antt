@@ -16,7 +16,8 @@ use Rattle.tko_steps.specs.declared.phase.Phase.{Phase}
 use Rattle.tko_steps.specs.declared.step.Stepped.{Stepped}
 use Rattle.tko_steps.specs.declared.step.Stepped.TheVariants as stepped
 use Rattle.tko_steps.specs.declared.step.Word.{Word}
-use Rattle.tko_steps.specs.Core.{CoreState, IsOnOneWord, IsPlace, Shared, found_by, follows, no_slots, seen_by, shared_after, slots_at, soft_words_after, reported_by_act, word_at}
+use Rattle.tko_steps.specs.Core.{CoreState, IsOnOneWord, Shared, found_by, follows, no_slots, seen_by, shared_after, slots_at, soft_words_after, reported_by_act, word_at}
+use Rattle.tko_steps.specs.StepNeeds.{IsPlace}
 use Rattle.tko_steps.specs.Steps.{decided_answer, is_done, place_of, server_written, slots_after, slots_written, step_kind, word_after, writes}
 use Rattle.tko_steps.specs.Table.{action_of, same_server, same_slots}
 use Rattle.tko_steps.proofs.CountLemmas.{unread}

@@ -16,7 +16,7 @@ use Rattle.tko_steps.specs.declared.phase.Phase.TheVariants.{Start, Limit, Reser
 use Rattle.tko_steps.specs.declared.phase.Slots.{Slots}
 use Rattle.tko_steps.specs.declared.table.Decision.{Decision}
 use Rattle.tko_steps.specs.declared.table.Decision.TheVariants.{Goes, Answers}
-use Rattle.tko_steps.specs.Core.{owner_of}
+use Rattle.tko_steps.specs.Owners.{owner_of}
 use Rattle.tko_steps.specs.Steps.{decided_state}
 use Rattle.tko_steps.specs.Invariant.{IsPhase, holds, is_loose}
 use Rattle.tko_steps.specs.Table.{at_limit, at_threshold, from_start, goes, lost_try, same_mark, same_server, same_slots}

@@ -6,7 +6,8 @@ use Rattle.std.proofs.lemmas.List.{get_or_past}
 use Rattle.std.proofs.lemmas.List.Sums.{count_by-le-length}
 use Rattle.tko_steps.specs.declared.phase.ThreadState.{ThreadState}
 use Rattle.tko_steps.specs.declared.phase.ThreadState.TheVariants.{NotEnrolled, Idle, InCall}
-use Rattle.tko_steps.specs.Core.{drawn_number, has_number, is_enrolled}
+use Rattle.tko_steps.specs.Core.{drawn_number}
+use Rattle.tko_steps.specs.Owners.{has_number, is_enrolled}
 use Rattle.tko_steps.proofs.CountLemmas.{bit, bit-le-count_by, count_by-set}
 
 pub has_number-from : (state : ThreadState) (number : ℕ) → drawn_number state ≡ Some number → has_number number state ≡ true

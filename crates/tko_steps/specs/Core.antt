@@ -1,18 +1,15 @@
 -- The core: the words that the threads share and the state of each thread; and the core after a
 -- begin and after a step.
-use Rattle.std.specs.Prelude.{◌≡◌, ℕ, ◌+◌, ◌<◌, ◌^◌, ◌==◌, Bool, true, false, nat_lt, if◌then◌else◌, List, length, slice_index_or, slice_set, replicate, Option, Some, None}
-use Rattle.tko_model.specs.declared.mark.Mark.{Mark}
-use Rattle.tko_model.specs.declared.mark.Mark.TheVariants as mark
+use Rattle.std.specs.Prelude.{◌≡◌, ℕ, ◌+◌, Bool, true, false, nat_lt, if◌then◌else◌, List, length, slice_index_or, slice_set, replicate, Option, Some, None}
 use Rattle.tko_model.specs.declared.mark.Op.{Op}
 use Rattle.tko_model.specs.Settings.{Settings}
 use Rattle.tko_model.specs.declared.state.ServerState.{ServerState}
 use Rattle.tko_model.specs.Groups.{group_of, groups}
 use Rattle.tko_model.specs.Tracker.{opened, server_at}
-use Rattle.tko_word.specs.Words.{IsMark, firm_in, held_in, stamp_end}
+use Rattle.tko_word.specs.Words.{firm_in, held_in}
 use Rattle.tko_steps.specs.declared.step.BeginFault.{BeginFault}
 use Rattle.tko_steps.specs.declared.step.BeginFault.TheVariants as fault
 use Rattle.tko_steps.specs.declared.table.Action.{Action}
-use Rattle.tko_steps.specs.declared.table.Action.TheVariants.{LookAtServer, Exchange, Reserve, Settle, Loosen, Give}
 use Rattle.tko_steps.specs.declared.table.Decision.{Decision}
 use Rattle.tko_steps.specs.declared.table.Observed.{Observed}
 use Rattle.tko_steps.specs.declared.phase.Call.{Call}
@@ -178,31 +175,6 @@ abbrev pub with_soft_words : Shared → ℕ → Action → Shared
 with_soft_words shared group action =
     record shared { slots = soft_words_after shared.slots group action }
 
--- what a step on the soft word of this group needs: no count goes below 0, and nothing wraps
-abbrev pub CanShift : Slots → Action → Type 0
-CanShift now (Reserve slots) = now.held + 1 < 2 ^ 32
-CanShift now Settle = (0 < now.held) × (now.firm + 1 < 2 ^ 32)
-CanShift now Loosen = (0 < now.firm) × (now.held + 1 < 2 ^ 32)
-CanShift now Give = 0 < now.held
-CanShift now action = Unit {0}
-
--- the same of the soft word of a group, which is there
-abbrev pub CanShiftIn : List Slots → ℕ → Action → Type 0
-CanShiftIn slots group action = (group < length slots) × CanShift (slots_at slots group) action
-
--- what a step on the words needs
-abbrev pub CanAct : Settings → Shared → ℕ → Action → Type 0
-CanAct s shared server LookAtServer = server < length shared.servers
-CanAct s shared server (Exchange found mark) =
-    (server < length shared.servers) × IsMark mark × (found.stamp + 1 < stamp_end)
-CanAct s shared server action = CanShiftIn shared.slots (group_of s server) action
-
--- the word of this place is there, and a number of threads fits what is said of it
-abbrev pub IsPlace : Shared → Place → Type 0
-IsPlace shared (place.Server server) = server < length shared.servers
-IsPlace shared (place.Soft group) = group < length shared.slots
-IsPlace shared place.Enrolment = shared.enrolled < 2 ^ 32
-
 -- the word that the step of a call at this phase finds
 abbrev pub found_by : CoreState → Call → Phase → Word
 found_by core call phase =
@@ -267,44 +239,3 @@ reported_by_step core thread =
     if nat_lt thread (length core.threads)
     then reported_from core (thread_at core thread)
     else stepped.NoThread
-
--- whether a thread has this number
-abbrev pub has_number : ℕ → ThreadState → Bool
-has_number number NotEnrolled = false
-has_number number (Idle own) = own == number
-has_number number (InCall call phase) = call.number == number
-
--- whether a thread is enrolled
-abbrev pub is_enrolled : ThreadState → Bool
-is_enrolled NotEnrolled = false
-is_enrolled (Idle number) = true
-is_enrolled (InCall call phase) = true
-
--- whether a thread has a call
-abbrev pub has_call : ThreadState → Bool
-has_call NotEnrolled = false
-has_call (Idle number) = false
-has_call (InCall call phase) = true
-
--- the number of the thread that a mark names
-abbrev pub owner_of : Mark → Option ℕ
-owner_of (mark.Up count) = None
-owner_of (mark.Soft thread) = Some thread
-owner_of (mark.Hard thread) = Some thread
-
--- the server's mark names this number
-abbrev pub IsOwner : List ServerState → ℕ → ℕ → Type 0
-IsOwner servers number server = owner_of (server_at servers server).mark ≡ Some number
-
--- whether a mark names the number of this thread
-abbrev pub names : Mark → Option ℕ → Bool
-names (mark.Up count) number = false
-names (mark.Soft owner) None = false
-names (mark.Soft owner) (Some number) = owner == number
-names (mark.Hard owner) None = false
-names (mark.Hard owner) (Some number) = owner == number
-
--- a thread of this number, which owns these servers, owns those whose marks name it
-abbrev pub IsOwnedBy : List ServerState → Option ℕ → (ℕ → Bool) → Type 0
-IsOwnedBy servers number owned =
-    (server : ℕ) → owned server ≡ names (server_at servers server).mark number

@@ -13,7 +13,8 @@ use Rattle.tko_steps.specs.declared.phase.Phase.{Phase}
 use Rattle.tko_steps.specs.declared.phase.Phase.TheVariants.{Start, Read, AtThreshold, Limit, Reserving, Holding, Firming, Losing, Loosening, Loosened, Emptied}
 use Rattle.tko_steps.specs.declared.phase.ThreadState.{ThreadState}
 use Rattle.tko_steps.specs.declared.phase.ThreadState.TheVariants.{InCall}
-use Rattle.tko_steps.specs.Core.{IsOwner, owner_of, CoreState, abstract_of, has_number, is_enrolled, slots_at}
+use Rattle.tko_steps.specs.Core.{CoreState, abstract_of, slots_at}
+use Rattle.tko_steps.specs.Owners.{IsOwner, owner_of, has_number, is_enrolled}
 
 -- whether a call at this phase holds a slot
 abbrev pub holds_at : Phase → Bool

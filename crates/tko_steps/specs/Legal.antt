@@ -8,7 +8,8 @@ use Rattle.tko_model.specs.Settings.{Settings}
 use Rattle.tko_model.specs.declared.state.ServerState.{ServerState}
 use Rattle.tko_model.specs.Groups.{limit_at}
 use Rattle.tko_model.specs.Tracker.{Tracker, after, reply_of, softs_beside}
-use Rattle.tko_steps.specs.Core.{IsOwner, CoreState, drawn_number, thread_at}
+use Rattle.tko_steps.specs.Core.{CoreState, drawn_number, thread_at}
+use Rattle.tko_steps.specs.Owners.{IsOwner}
 use Rattle.tko_steps.specs.Runs.{Began, Moment, OwnStep, RunCall, StepTaken, Took, calls_of, own_step}
 
 -- the sequential tracker in this abstract state

@@ -6,7 +6,9 @@ pub mod Kinds
 pub mod Law
 pub mod Legal
 pub mod Lost
+pub mod Owners
 pub mod Runs
 pub mod Safe
+pub mod StepNeeds
 pub mod Steps
 pub mod Table

@@ -6,7 +6,8 @@ use Rattle.tko_model.specs.Settings.{Settings}
 use Rattle.tko_model.specs.declared.state.ServerState.{ServerState}
 use Rattle.tko_model.specs.Groups.{groups, limit_of}
 use Rattle.tko_model.specs.Tracker.{softs_in}
-use Rattle.tko_steps.specs.Core.{IsOwner, CoreState, abstract_of, has_number, drawn_number, thread_at}
+use Rattle.tko_steps.specs.Core.{CoreState, abstract_of, drawn_number, thread_at}
+use Rattle.tko_steps.specs.Owners.{IsOwner, has_number}
 use Rattle.tko_steps.specs.Invariant.{firm_at, held_at, holds_in, is_loose_in}
 use Rattle.tko_steps.specs.Runs.{World, owns_in_past}
 

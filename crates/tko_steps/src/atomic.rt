@@ -36,7 +36,8 @@ impl Model for Core {
 }
 
 impl Core {
-    ghost use Rattle.tko_steps.specs.Core.{after_act, after_begin, after_enrol, after_step, begin_fault, has_call, opened_core, thread_at, reported_by_act, reported_by_enrol, reported_by_step};
+    ghost use Rattle.tko_steps.specs.Core.{after_act, after_begin, after_enrol, after_step, begin_fault, opened_core, thread_at, reported_by_act, reported_by_enrol, reported_by_step};
+    ghost use Rattle.tko_steps.specs.Owners.{has_call};
     ghost use Rattle.tko_steps.specs.declared.phase.ThreadState.TheVariants as state;
 
     /// All servers are up, at the opening stamp, and no thread is enrolled.

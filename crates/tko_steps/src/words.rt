@@ -38,7 +38,8 @@ impl Model for CoreWords {
 }
 
 impl CoreWords {
-    ghost use Rattle.tko_steps.specs.Core.{CanAct, CanShiftIn, IsPlace, opened_words, seen_by, servers_after, shared_after, slots_at, with_slots, with_soft_words, word_at};
+    ghost use Rattle.tko_steps.specs.Core.{opened_words, seen_by, servers_after, shared_after, slots_at, with_slots, with_soft_words, word_at};
+    ghost use Rattle.tko_steps.specs.StepNeeds.{CanAct, CanShiftIn, IsPlace};
     ghost use Rattle.tko_steps.specs.declared.table.Action.TheVariants.{Exchange, Give, Loosen, Reserve, Settle};
 
     /// Each server is up, at the opening stamp; no slot is taken and no thread enrolled.

@@ -11,7 +11,8 @@ use Rattle.tko_steps.specs.declared.phase.Slots.{Slots}
 use Rattle.tko_steps.specs.declared.phase.ThreadState.TheVariants.{InCall}
 use Rattle.tko_steps.specs.declared.table.Action.{Action}
 use Rattle.tko_steps.specs.declared.table.Action.TheVariants as action
-use Rattle.tko_steps.specs.Core.{CanAct, slots_in}
+use Rattle.tko_steps.specs.Core.{slots_in}
+use Rattle.tko_steps.specs.StepNeeds.{CanAct}
 use Rattle.tko_steps.specs.Table.{action_of}
 use Rattle.tko_table.specs.declared.pass.PassView.{PassView}
 use Rattle.tko_table.specs.Rule.{health_in, shared_in, soft_place}

@@ -12,7 +12,8 @@ use Rattle.tko_model.specs.Settings.{Settings}
 use Rattle.tko_model.specs.declared.state.ServerState.{ServerState}
 use Rattle.tko_model.specs.Tracker.{server_at, softs_in}
 use Rattle.tko_word.specs.Words.{IsWord, server_in}
-use Rattle.tko_steps.specs.Core.{Shared, has_number, no_slots, slots_at, slots_in}
+use Rattle.tko_steps.specs.Core.{Shared, no_slots, slots_at, slots_in}
+use Rattle.tko_steps.specs.Owners.{has_number}
 use Rattle.tko_steps.specs.Invariant.{holds_in}
 use Rattle.tko_steps.specs.Steps.{is_marked_state}
 use Rattle.tko_steps.proofs.RoomLemmas.{enrolled-le}

@@ -16,7 +16,8 @@ use Rattle.tko_steps.specs.declared.phase.Phase.TheVariants.{Start, Read, AtThre
 use Rattle.tko_steps.specs.declared.phase.Phase.TheVariants.{Reserving, Holding, Firming, Losing}
 use Rattle.tko_steps.specs.declared.phase.Phase.TheVariants.{Loosening, Loosened, Emptied}
 use Rattle.tko_steps.specs.declared.phase.ThreadState.TheVariants.{InCall}
-use Rattle.tko_steps.specs.Core.{CoreState, abstract_of, owner_of, seen_by, shared_after, thread_at}
+use Rattle.tko_steps.specs.Core.{CoreState, abstract_of, seen_by, shared_after, thread_at}
+use Rattle.tko_steps.specs.Owners.{owner_of}
 use Rattle.tko_steps.specs.Core.{slots_at}
 use Rattle.tko_steps.specs.Steps.{is_done}
 use Rattle.tko_steps.specs.Invariant.{IsCore, IsFoundBy}

@@ -9,7 +9,7 @@ use lib.ListN.{get_elem?}
 use Rattle.tko_model.specs.Settings.{Settings}
 use Rattle.tko_steps.specs.declared.phase.ThreadState.{ThreadState}
 use Rattle.tko_steps.specs.declared.phase.ThreadState.TheVariants.{NotEnrolled, Idle, InCall}
-use Rattle.tko_steps.specs.Core.{is_enrolled}
+use Rattle.tko_steps.specs.Owners.{is_enrolled}
 use Rattle.tko_steps.proofs.CountLemmas.{bit}
 use Rattle.tko_table.specs.declared.pass.Change.{Change}
 use Rattle.tko_table.specs.declared.pass.PassView.{PassView}

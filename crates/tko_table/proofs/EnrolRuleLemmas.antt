@@ -18,7 +18,8 @@ use Rattle.tko_steps.specs.declared.step.StepKind.TheVariants.{Enrol}
 use Rattle.tko_steps.specs.declared.step.Place.TheVariants as place
 use Rattle.tko_steps.specs.declared.step.Word.TheVariants as held
 use Rattle.tko_steps.specs.Core.{CoreState, Shared, abstract_of, after_enrol, after_step}
-use Rattle.tko_steps.specs.Core.{after_step_from, drawn_number, owner_of, reported_by_enrol}
+use Rattle.tko_steps.specs.Core.{after_step_from, drawn_number, reported_by_enrol}
+use Rattle.tko_steps.specs.Owners.{owner_of}
 use Rattle.tko_steps.specs.Core.{reported_by_step, reported_from, thread_at}
 use Rattle.tko_steps.specs.Runs.{Step, StepTaken, Took as TookStep, happens, with_reported}
 use Rattle.tko_steps.specs.Invariant.{IsCore}

@@ -9,7 +9,8 @@ use Rattle.std.proofs.lemmas.List.Elements.{All-from_get_or}
 use mathlib.Core.Option.{some, some-injective, some-ne-none}
 use lib.ListN.{get_elem?}
 use Rattle.tko_steps.specs.declared.phase.ThreadState.TheVariants.{NotEnrolled}
-use Rattle.tko_steps.specs.Core.{has_number, drawn_number}
+use Rattle.tko_steps.specs.Core.{drawn_number}
+use Rattle.tko_steps.specs.Owners.{has_number}
 use Rattle.tko_steps.proofs.ThreadLemmas.{number-once}
 use Rattle.tko_table.specs.declared.pass.PassView.{PassView}
 use Rattle.tko_table.specs.Rule.{joined_passes, states_of}

@@ -11,7 +11,8 @@ use Rattle.tko_model.specs.declared.state.ServerState.{ServerState}
 use Rattle.tko_model.specs.Tracker.{is_soft, server_at, softs_from}
 use Rattle.tko_steps.specs.declared.phase.ThreadState.{ThreadState}
 use Rattle.tko_steps.specs.declared.phase.ThreadState.TheVariants.{NotEnrolled, Idle, InCall}
-use Rattle.tko_steps.specs.Core.{has_number, drawn_number, owner_of, no_slots}
+use Rattle.tko_steps.specs.Core.{drawn_number, no_slots}
+use Rattle.tko_steps.specs.Owners.{has_number, owner_of}
 use Rattle.tko_steps.specs.Invariant.{holds_in}
 use Rattle.tko_steps.specs.Steps.{is_marked_state}
 use Rattle.tko_steps.proofs.CountLemmas.{bit}

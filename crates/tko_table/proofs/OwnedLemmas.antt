@@ -8,7 +8,7 @@ use Rattle.tko_model.specs.declared.mark.Mark.{Mark}
 use Rattle.tko_model.specs.declared.mark.Mark.TheVariants.{Up, Soft, Hard}
 use Rattle.tko_model.specs.declared.state.ServerState.{ServerState}
 use Rattle.tko_model.specs.Tracker.{server_at}
-use Rattle.tko_steps.specs.Core.{owner_of}
+use Rattle.tko_steps.specs.Owners.{owner_of}
 use Rattle.tko_table.specs.Passes.{is_marked_by, owned_with, owns, without}
 
 -- a mark that names this number or none

@@ -23,7 +23,9 @@ use Rattle.tko_steps.specs.declared.phase.ThreadState.TheVariants.{NotEnrolled, 
 use Rattle.tko_steps.specs.declared.table.Action.{Action}
 use Rattle.tko_steps.specs.declared.table.Action.TheVariants as action
 use Rattle.tko_steps.specs.declared.table.Observed.TheVariants as read
-use Rattle.tko_steps.specs.Core.{CanAct, owner_of, seen_by, shared_after, slots_in, thread_at}
+use Rattle.tko_steps.specs.Core.{seen_by, shared_after, slots_in, thread_at}
+use Rattle.tko_steps.specs.StepNeeds.{CanAct}
+use Rattle.tko_steps.specs.Owners.{owner_of}
 use Rattle.tko_steps.specs.Table.{action_of}
 use Rattle.tko_steps.proofs.CoreLemmas.{group-there, own-group}
 use Rattle.tko_steps.proofs.PhaseStepLemmas.{knows_at}

@@ -10,7 +10,8 @@ use Rattle.tko_steps.specs.declared.table.Decision.TheVariants.{Goes, Answers}
 use Rattle.tko_steps.specs.declared.table.Observed.{Observed}
 use Rattle.tko_model.specs.declared.mark.Mark.{Mark}
 use Rattle.tko_model.specs.declared.mark.Mark.TheVariants.{Up, Soft, Hard}
-use Rattle.tko_steps.specs.Core.{CoreState, Shared, drawn_number, seen_by, shared_after, names}
+use Rattle.tko_steps.specs.Core.{CoreState, Shared, drawn_number, seen_by, shared_after}
+use Rattle.tko_steps.specs.Owners.{names}
 use Rattle.tko_steps.specs.Core.{word_at}
 use Rattle.tko_steps.specs.Steps.{owned_after as owned_after_core, place_of}
 use Rattle.tko_steps.proofs.OwnedLemmas.{own-step}

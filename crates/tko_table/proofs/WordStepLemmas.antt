@@ -17,7 +17,8 @@ use Rattle.tko_steps.specs.declared.phase.Slots.{Slots}
 use Rattle.tko_steps.specs.declared.table.Action.{Action}
 use Rattle.tko_steps.specs.declared.table.Action.TheVariants as action
 use Rattle.tko_steps.specs.declared.table.Observed.TheVariants as read
-use Rattle.tko_steps.specs.Core.{CanAct, CanShift, CanShiftIn, Shared, seen_by, shared_after}
+use Rattle.tko_steps.specs.Core.{Shared, seen_by, shared_after}
+use Rattle.tko_steps.specs.StepNeeds.{CanAct, CanShift, CanShiftIn}
 use Rattle.tko_steps.specs.Core.{slots_at, slots_in}
 use Rattle.tko_steps.specs.Table.{same_server, same_slots}
 use Rattle.tko_table.specs.Rule.{health_in, health_place, shared_in, soft_place}

@@ -8,8 +8,9 @@ use Rattle.tko_text.specs.declared.response.fault.ReadFault.TheVariants as fault
 use Rattle.tko_text.specs.ListingFaults.{IsOtherLine, ListFault, NoListing, NotAwaited}
 use Rattle.tko_text.specs.ResponseFaults.{DataFault, EndFault, LineFault}
 use Rattle.tko_text.specs.ResponseLines.{Split, SplitsLine}
-use Rattle.tko_text.specs.Responses.IsCutListing.{in_line, in_value, after_value}
-use Rattle.tko_text.specs.Responses.{AreAwaited, IsAnswerLine, IsCutData, IsCutListing, IsHead, IsValueAwaited, IsValueText, block}
+use Rattle.tko_text.specs.ResponseReads.IsCutListing.{in_line, in_value, after_value}
+use Rattle.tko_text.specs.Responses.{AreAwaited, IsAnswerLine, IsHead, IsValueAwaited, IsValueText, block}
+use Rattle.tko_text.specs.ResponseReads.{IsCutData, IsCutListing}
 use Rattle.tko_text.proofs.ListingTexts.{cut_is_no_listing, cut_line, cut_text_is_no_text, listing_line, overlong_isnt_listing, same_text, text_is_no_end, text_line}
 use Rattle.tko_text.proofs.ResponseBodyLemmas.{end_fault_has_none, end_fault_isnt_open, head_is_one, wrong_data_has_none, wrong_data_isnt_cut}
 use Rattle.tko_text.proofs.ResponseLineLemmas.{line_is_one, open_line_has_none, overlong_has_none}

@@ -10,7 +10,7 @@ use Rattle.tko_text.specs.ListingFaults.{ErrorFault, IsError, IsErrorLine, ListF
 use Rattle.tko_text.specs.Places.{values_in}
 use Rattle.tko_text.specs.ResponseFaults.{Misses, NoneOf, ReadsOf, line_response}
 use Rattle.tko_text.specs.ResponseLines.{IsSplitLine, Split, SplitsLine}
-use Rattle.tko_text.specs.Responses.IsCutListing.{in_line}
+use Rattle.tko_text.specs.ResponseReads.IsCutListing.{in_line}
 use Rattle.tko_text.specs.Responses.{Listing, Says, Spells, Suits}
 use Rattle.tko_text.proofs.ListingTexts.{cut_is_no_line}
 use Rattle.tko_text.proofs.ResponseLineLemmas.{line_is_one}

@@ -5,8 +5,9 @@ use Rattle.tko_text.specs.declared.response.Response.{Response}
 use Rattle.tko_text.specs.declared.response.Response.TheVariants as response
 use Rattle.tko_text.specs.declared.response.body.Value.{Value}
 use Rattle.tko_text.specs.ResponseLines.{IsOpenLine, IsOverlong, IsSplitLine, Split}
-use Rattle.tko_text.specs.Responses.IsCutListing.{in_line, in_value, after_value}
-use Rattle.tko_text.specs.Responses.{RequestKind, Retrieval, Listing, Storage, Deletion, Counting, Touching, Probe, IsAnswerLine, IsCutList, IsCutListing, IsCutText, IsListing, IsValueText, Says, block}
+use Rattle.tko_text.specs.ResponseReads.IsCutListing.{in_line, in_value, after_value}
+use Rattle.tko_text.specs.Responses.{RequestKind, Retrieval, Listing, Storage, Deletion, Counting, Touching, Probe, IsAnswerLine, IsListing, IsValueText, Says, block}
+use Rattle.tko_text.specs.ResponseReads.{IsCutList, IsCutListing, IsCutText}
 use Rattle.tko_text.proofs.ResponseBodyLemmas.{cut_data_has_none, data_is_one, head_is_one}
 use Rattle.tko_text.proofs.ResponseLineLemmas.{line_is_one, open_line_has_none, overlong_has_none}
 use Rattle.tko_text.proofs.ResponseWordLemmas.{says_no_head, value_says_nothing}

@@ -7,7 +7,8 @@ use Rattle.tko_text.specs.declared.response.kind as code
 use Rattle.tko_text.specs.declared.response.kind.SentKind.TheVariants as variant
 use Rattle.tko_text.specs.ResponseKinds.{kind_seen}
 use Rattle.tko_text.specs.Responses.{RequestKind, Retrieval, Listing, Storage, Deletion, Counting}
-use Rattle.tko_text.specs.Responses.{Touching, Probe, Asks, IsCutList, IsCutValue, Suits}
+use Rattle.tko_text.specs.Responses.{Touching, Probe, Asks, Suits}
+use Rattle.tko_text.specs.ResponseReads.{IsCutList, IsCutValue}
 use Rattle.tko_text.specs.Responses.{request_kind}
 
 -- a kind has a value exactly where it asked for it

@@ -10,7 +10,8 @@ use Rattle.tko_bytes.specs.Numbers.{number_of}
 use Rattle.tko_text.specs.Heads.{value_of}
 use Rattle.tko_text.specs.Limits.{number_limit}
 use Rattle.tko_text.specs.ResponseLines.{IsOpenLine, IsNumber, Split, SplitsLine}
-use Rattle.tko_text.specs.Responses.{RequestKind, Retrieval, Asks, IsOneWord, IsCas, IsHead, IsBody, IsCutData, block}
+use Rattle.tko_text.specs.Responses.{RequestKind, Retrieval, Asks, IsOneWord, IsCas, IsHead, IsBody, block}
+use Rattle.tko_text.specs.ResponseReads.{IsCutData}
 use Rattle.tko_text.specs.ResponseFaults.{NoHead, DataFault, EndFault, SplitsEnd, SplitsBody, BodyFault}
 use Rattle.tko_text.proofs.ResponseLineLemmas.{line_is_one, open_line_has_none, overlong_has_none}
 

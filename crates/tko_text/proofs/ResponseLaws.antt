@@ -5,7 +5,8 @@ use Rattle.tko_text.specs.declared.response.Response.{Response}
 use Rattle.tko_text.specs.declared.response.Response.TheVariants as response
 use Rattle.tko_text.specs.declared.response.body.Value.{Value}
 use Rattle.tko_text.specs.ResponseLines.{IsOpenLine, IsSplitLine, Split}
-use Rattle.tko_text.specs.Responses.{RequestKind, Says, Suits, IsBody, IsCutList, IsCutValue, IsListing, IsResponse, IsBeginning, NoResponse, OneResponse, BeginningHasNone, block}
+use Rattle.tko_text.specs.Responses.{RequestKind, Says, Suits, IsBody, IsListing, block}
+use Rattle.tko_text.specs.ResponseReads.{IsCutList, IsCutValue, IsResponse, IsBeginning, NoResponse, OneResponse, BeginningHasNone}
 use Rattle.tko_text.proofs.ListingTexts.{same_value, same_text, text_is_no_end, text_says_nothing, cut_has_no_listing, cut_list_is_no_line, listing_line}
 use Rattle.tko_text.proofs.ResponseLineLemmas.{line_is_one, open_line_has_none}
 use Rattle.tko_text.proofs.ResponseWordLemmas.{says_is_one, says_no_head}

@@ -9,7 +9,8 @@ use Rattle.tko_text.specs.declared.response.body.Value.{Value}
 use Rattle.tko_text.specs.declared.response.fault.ReadFault.{ReadFault}
 use Rattle.tko_text.specs.declared.response.fault.ReadFault.TheVariants as fault
 use Rattle.tko_text.specs.ResponseLines.{IsSplitLine, Split, SplitsLine}
-use Rattle.tko_text.specs.Responses.{RequestKind, Suits, Says, IsBody, IsCutBody, Spells, IsCutResponse, IsListing, IsResponse, IsBeginning, NoResponse, ReadsResponse, request_kind}
+use Rattle.tko_text.specs.Responses.{RequestKind, Suits, Says, IsBody, Spells, IsListing, request_kind}
+use Rattle.tko_text.specs.ResponseReads.{IsCutBody, IsCutResponse, IsResponse, IsBeginning, NoResponse, ReadsResponse}
 use Rattle.tko_text.specs.ResponseFaults.{NoneOf, ReadsOf, LineFault, Misses, NoBody, SplitsBody, BodyFault, line_response, value_line}
 use Rattle.tko_text.proofs.ResponseLineLemmas.{line_is_one, open_line_has_none, overlong_has_none}
 use Rattle.tko_text.proofs.ListingTexts.{listing_line, overlong_isnt_cut}

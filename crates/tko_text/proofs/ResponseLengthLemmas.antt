@@ -7,7 +7,8 @@ use Rattle.tko_text.specs.declared.request.Request.{Request}
 use Rattle.tko_text.specs.declared.response.Response.{Response}
 use Rattle.tko_text.specs.declared.response.body.Value.{Value}
 use Rattle.tko_text.specs.ResponseLines.{Split, SplitsLine}
-use Rattle.tko_text.specs.Responses.{RequestKind, IsBody, IsHead, IsListing, IsResponse, NoResponse, Says, Suits, block, request_kind}
+use Rattle.tko_text.specs.Responses.{RequestKind, IsBody, IsHead, IsListing, Says, Suits, block, request_kind}
+use Rattle.tko_text.specs.ResponseReads.{IsResponse, NoResponse}
 use Rattle.tko_text.specs.ResponseFaults.{IsResponseOf, value_line}
 use Rattle.tko_text.specs.ResponseLengths.{IsLeastLength, IsLeastOf}
 use Rattle.tko_text.proofs.RequestKindLemmas.{IsSingle, none_listed, same_kind}

@@ -20,6 +20,7 @@ pub mod ResponseFaults
 pub mod ResponseKinds
 pub mod ResponseLengths
 pub mod ResponseLines
+pub mod ResponseReads
 pub mod Responses
 pub mod SentRequests
 pub mod States

@@ -10,7 +10,8 @@ use Rattle.tko_text.specs.declared.response.reader.Head.{Head}
 use Rattle.tko_text.specs.Heads.{value_of}
 use Rattle.tko_text.specs.Places.{IsPlaceIn, values_in}
 use Rattle.tko_text.specs.ResponseLines.{IsOpenLine, IsSplitLine, Split, SplitsLine}
-use Rattle.tko_text.specs.Responses.{AreAwaited, IsCutListing, IsHead, IsListing, IsValueAwaited, IsValueText, Says}
+use Rattle.tko_text.specs.Responses.{AreAwaited, IsHead, IsListing, IsValueAwaited, IsValueText, Says}
+use Rattle.tko_text.specs.ResponseReads.{IsCutListing}
 
 -- a response that any request can have
 abbrev pub IsError : Response → Type 0

@@ -11,7 +11,8 @@ use Rattle.tko_text.specs.declared.response.fault.ReadFault.{ReadFault}
 use Rattle.tko_text.specs.declared.response.fault.ReadFault.TheVariants as fault
 use Rattle.tko_text.specs.Limits.{number_limit}
 use Rattle.tko_text.specs.ResponseLines.{IsOpenLine, IsOverlong, Split, SplitsLine}
-use Rattle.tko_text.specs.Responses.{RequestKind, Asks, IsCutResponse, IsOneWord, IsAnswerLine, IsHead, IsBody, IsCutBody, IsCutData, Spells, Suits}
+use Rattle.tko_text.specs.Responses.{RequestKind, Asks, IsOneWord, IsAnswerLine, IsHead, IsBody, Spells, Suits}
+use Rattle.tko_text.specs.ResponseReads.{IsCutResponse, IsCutBody, IsCutData}
 
 -- the bytes, all of them, are this response to a request of the kind
 abbrev pub IsResponseOf : RequestKind → List ℕ → Response → Type 0

@@ -3,7 +3,8 @@ use Rattle.std.specs.Prelude.{◌≤◌, ℕ, List, ◌++◌, length, take}
 use Rattle.tko_text.specs.declared.request.Request.{Request}
 use Rattle.tko_text.specs.declared.response.Response.{Response}
 use Rattle.tko_text.specs.ResponseFaults.{IsResponseOf}
-use Rattle.tko_text.specs.Responses.{IsResponse, RequestKind}
+use Rattle.tko_text.specs.Responses.{RequestKind}
+use Rattle.tko_text.specs.ResponseReads.{IsResponse}
 
 -- no response to the request that begins with these bytes, however they go on, is shorter
 unfoldable pub IsLeastLength : Request → List ℕ → ℕ → Type 0

@@ -1,7 +1,8 @@
 //! What a server answers.
 ghost use Rattle.std.specs.Prelude.{◌≡◌, ◌≢◌, ◌≤◌, ◌++◌, ℕ, List, length, IfOk, IfSome, OnOk, OnErr};
 ghost use Rattle.tko_text.specs.ResponseLengths.{IsLeastLength};
-ghost use Rattle.tko_text.specs.Responses.{ReadsResponse, part_for, response_text};
+ghost use Rattle.tko_text.specs.Responses.{part_for, response_text};
+ghost use Rattle.tko_text.specs.ResponseReads.{ReadsResponse};
 
 use crate::{Key, NoMemory, Request};
 use bytes::Bytes;

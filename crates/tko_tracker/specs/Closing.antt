@@ -2,7 +2,8 @@
 use Rattle.std.specs.Prelude.{◌≡◌, ℕ, ◌<◌, false, List, [], ◌∷◌, length, map, count_by, All}
 use Rattle.tko_model.specs.declared.state.ServerState.{ServerState}
 use Rattle.tko_steps.specs.declared.phase.ThreadState.TheVariants.{Idle}
-use Rattle.tko_steps.specs.Core.{has_number, no_slots, slots_at}
+use Rattle.tko_steps.specs.Core.{no_slots, slots_at}
+use Rattle.tko_steps.specs.Owners.{has_number}
 use Rattle.tko_steps.specs.Steps.{is_marked_state}
 use Rattle.tko_table.specs.declared.pass.Change.{Change}
 use Rattle.tko_table.specs.declared.pass.PassView.{PassView}

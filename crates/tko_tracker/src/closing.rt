@@ -3,7 +3,7 @@ ghost use Rattle.tko_model.specs.Groups.{groups};
 ghost use Rattle.tko_steps.specs.Core.{no_slots, slots_at};
 ghost use Rattle.std.specs.Prelude.{◌≡◌, ◌<◌, true, false, All, length, MatchResult, ℕ};
 ghost use Rattle.tko_model.specs.Tracker.{server_at};
-ghost use Rattle.tko_steps.specs.Core.{has_number};
+ghost use Rattle.tko_steps.specs.Owners.{has_number};
 ghost use Rattle.tko_table.specs.Steps.{view_of};
 ghost use Rattle.tko_tracker.specs.Closing.{AreJoined, HoldsEachOnce, IsFinal, count_of_number, met};
 ghost use Rattle.tko_tracker.specs.Seated.{IsOf, tracker_of};

@@ -3,7 +3,7 @@ use Rattle.std.specs.Prelude.{◌≡◌, ◌⊎◌, ℕ, List, [], Option, Some,
 use Rattle.std.specs.Option.{option_and_then}
 use Rattle.tko_text.specs.declared.request.Request.{Request}
 use Rattle.tko_text.specs.declared.response.fault.ReadFault.TheVariants as fault
-use Rattle.tko_text.specs.Responses.{ReadsResponse}
+use Rattle.tko_text.specs.ResponseReads.{ReadsResponse}
 use Rattle.tko_pipe.specs.declared.fates.ShutCause.{ShutCause}
 use Rattle.tko_pipe.specs.declared.link.Link.TheVariants.{Connected}
 use Rattle.tko_pipe.specs.declared.waiter.Waiter.{Waiter}

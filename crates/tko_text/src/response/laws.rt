@@ -1,5 +1,5 @@
 //! What holds of all readings.
-ghost use Rattle.tko_text.specs.Responses.{BeginningHasNone, OneResponse};
+ghost use Rattle.tko_text.specs.ResponseReads.{BeginningHasNone, OneResponse};
 
 /// A reading is one: what is read of bytes, memory aside, doesn't depend on the reader.
 pub fn one_response()

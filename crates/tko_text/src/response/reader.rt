@@ -5,7 +5,8 @@ ghost use Rattle.tko_text.specs.ResponseFaults.{BodyFault, DataFault, EndFault, 
 ghost use Rattle.tko_text.specs.Heads.{IsPlaced, value_of};
 ghost use Rattle.tko_bytes.specs.Words.{words};
 ghost use Rattle.tko_text.specs.ResponseKinds.{kind_seen};
-ghost use Rattle.tko_text.specs.Responses.{IsCas, IsHead, ReadsResponse, Retrieval, block};
+ghost use Rattle.tko_text.specs.Responses.{IsCas, IsHead, Retrieval, block};
+ghost use Rattle.tko_text.specs.ResponseReads.{ReadsResponse};
 
 use super::data::DATA_LIMIT;
 use super::kind::{Expected, SentKind, kind_of, suits};

@@ -1,5 +1,5 @@
 use Rattle.std.proofs.Common.{Err, ℕ, List, rules, subst, sym}
-use Rattle.tko_text.specs.Responses.{ReadsResponse}
+use Rattle.tko_text.specs.ResponseReads.{ReadsResponse}
 use Rattle.tko_text.specs.declared.response.fault.ReadFault.TheVariants as read_fault
 use Rattle.tko_links.specs.Incoming.{arrival}
 use Rattle.tko_links.proofs.IncomingLemmas.{awaited_after_look, still_awaited}

@@ -1,5 +1,6 @@
 use Rattle.std.proofs.Common.{◌≡◌, subst, sym}
-use Rattle.tko_steps.specs.Core.{CanAct, CoreState, IsPlace, after_act, reported_by_act, shared_after}
+use Rattle.tko_steps.specs.Core.{CoreState, after_act, reported_by_act, shared_after}
+use Rattle.tko_steps.specs.StepNeeds.{CanAct, IsPlace}
 use Rattle.tko_steps.specs.Invariant.{IsCore}
 use Rattle.tko_steps.specs.Steps.{place_of}
 use Rattle.tko_steps.specs.Table.{action_of}
