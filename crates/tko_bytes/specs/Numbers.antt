@@ -1,5 +1,6 @@
--- Numbers as words: decimal digits, any number of leading zeros, and no sign.
-use Rattle.std.specs.Prelude.{ℕ, Bool, ◌&&◌, nat_lt, nat_le, if◌then◌else◌, List, length, Option, Some, None}
+-- Numbers: as words of decimal digits, any number of leading zeros, and no sign; and those that stay
+-- at their greatest.
+use Rattle.std.specs.Prelude.{ℕ, ◌-◌, ◌^◌, min, Bool, ◌&&◌, nat_lt, nat_le, if◌then◌else◌, List, length, Option, Some, None}
 use Rattle.std.specs.Char.{is_ascii_digit}
 use Rattle.std.specs.List.{list_all}
 use Rattle.std.specs.Str.Parse.{digits_value}
@@ -14,3 +15,7 @@ number_of most word =
     if is_decimal word && nat_le (digits_value 10 word) most
     then Some (digits_value 10 word)
     else None
+
+-- a number or moment in 64 bits that stays at 2^64 - 1
+abbrev pub capped : ℕ → ℕ
+capped n = min n (2 ^ 64 - 1)

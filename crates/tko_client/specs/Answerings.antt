@@ -1,6 +1,7 @@
 -- What a client's requests are answered by: its session, or the keys of a request that the session
 -- handed over.
-use Rattle.std.specs.Prelude.{◌≡◌, ◌+◌, ◌-◌, ◌^◌, ℕ, List, [], Option, Some, None, length, min}
+use Rattle.std.specs.Prelude.{◌≡◌, ◌+◌, ℕ, List, [], Option, Some, None, length}
+use Rattle.tko_bytes.specs.Numbers.{capped}
 use Rattle.tko_text.specs.declared.request.Request.{Request}
 use Rattle.tko_pools.specs.Configs.{Configuration}
 use Rattle.tko_mux.specs.Awaits.{awaited_one}
@@ -54,7 +55,7 @@ waited_by it server = waited_with it.keys it.session.work server
 -- number stays at 2^64 - 1
 abbrev pub held_with : Option KeysState → ℕ → ℕ
 held_with None count = count
-held_with (Some keys) count = min (count + bytes_held_in keys.slots) (2 ^ 64 - 1)
+held_with (Some keys) count = capped (count + bytes_held_in keys.slots)
 
 abbrev pub held_by_client : Answering → ℕ
 held_by_client it = held_with it.keys (length it.session.outbox)

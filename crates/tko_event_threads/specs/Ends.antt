@@ -1,6 +1,6 @@
 -- How the clients of an event-driven worker ended, as it reports it.
 use Rattle.std.specs.Prelude.{◌+◌, Bool, false, nat_lt, ℕ}
-use Rattle.tko_io.specs.Io.{capped}
+use Rattle.tko_bytes.specs.Numbers.{capped}
 use Rattle.tko_threads.specs.declared.report.WorkerReport.{WorkerReport}
 use Rattle.tko_worker.specs.declared.ends.EndCounts.{EndCounts}
 

@@ -1,6 +1,6 @@
 //! What the loop of an event-driven worker calls.
 ghost use Rattle.std.specs.Prelude.{◌≡◌, [], sum_by};
-ghost use Rattle.tko_io.specs.Io.{capped};
+ghost use Rattle.tko_bytes.specs.Numbers.{capped};
 ghost use Rattle.tko_client.specs.Clients.{IsReadyAfter, awaits, client_of, talk_of};
 ghost use Rattle.tko_pools.specs.Configs.{Configuration};
 ghost use Rattle.tko_session.specs.Clients.{new_client};

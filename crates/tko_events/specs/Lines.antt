@@ -1,5 +1,6 @@
 -- The words and the numbers of a server's line.
-use Rattle.std.specs.Prelude.{◌≡◌, ℕ, ◌+◌, ◌-◌, ◌^◌, min, List, Option, Some, None, codes, length, map, option_map, replicate, slice_get, slice_index_or, String, string_bytes, unwrap_or}
+use Rattle.std.specs.Prelude.{◌≡◌, ℕ, ◌+◌, List, Option, Some, None, codes, length, map, option_map, replicate, slice_get, slice_index_or, String, string_bytes, unwrap_or}
+use Rattle.tko_bytes.specs.Numbers.{capped}
 use Rattle.tko_events.specs.declared.event.Cause.{Cause}
 use Rattle.tko_events.specs.declared.event.Cause.TheVariants as cause
 use Rattle.tko_events.specs.declared.event.ServerChange.{ServerChange}
@@ -51,7 +52,7 @@ known_after change.MarkedHard known = record { mark = marked.Hard; probes = 0 }
 known_after change.Hardened known = record known { mark = marked.Hard }
 known_after change.Unmarked known = record known { mark = marked.Up }
 known_after change.Released known = record known { mark = marked.Up }
-known_after change.Probed known = record known { probes = min (known.probes + 1) (2 ^ 64 - 1) }
+known_after change.Probed known = record known { probes = capped (known.probes + 1) }
 
 -- the count of an event's line: the failures that made a mark, or else the probes since it was made
 abbrev pub count_in : ℕ → ServerChange → KnownServer → ℕ

@@ -1,5 +1,6 @@
 //! The lines of the log.
-ghost use Rattle.std.specs.Prelude.{◌≡◌, ◌<◌, ◌+◌, ◌-◌, ◌^◌, IfOk, length, map, min, slice_set, string_bytes};
+ghost use Rattle.std.specs.Prelude.{◌≡◌, ◌<◌, ◌+◌, IfOk, length, map, slice_set, string_bytes};
+ghost use Rattle.tko_bytes.specs.Numbers.{capped};
 ghost use Rattle.tko_events.specs.Lines.{IsJournalBegun, address_at, count_in, known_after, known_at, mark_word};
 
 use crate::event::{Cause, LogEvent, ServerChange, What};
@@ -160,8 +161,7 @@ impl KnownServer {
     }
 
     fn count_probe(&mut self) -> u64
-        ensures known { self.new
-            ≡ record self.old { probes = min (self.old.probes + 1) (2 ^ 64 - 1) } }
+        ensures known { self.new ≡ record self.old { probes = capped (self.old.probes + 1) } }
         ensures count { result ≡ self.new.probes }
     {
         self.probes = self.probes.saturating_add(1);

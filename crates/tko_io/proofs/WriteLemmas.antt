@@ -1,6 +1,7 @@
 -- Writes one after another, and their counts.
 use Rattle.std.proofs.Common.{◌≡◌, ℕ, ◌+◌, List, [], ◌++◌, length, sym, ap, subst, ◌∙◌, append-nil, length-append, arith, add-zero}
-use Rattle.tko_io.specs.Io.{Writes, capped}
+use Rattle.tko_bytes.specs.Numbers.{capped}
+use Rattle.tko_io.specs.Io.{Writes}
 
 -- counts that stop at the same number may be added one after another
 pub capped-more : (a b c n m : ℕ) → capped b ≡ capped (a + n) → capped c ≡ capped (b + m) → capped c ≡ capped (a + (n + m))

@@ -1,6 +1,6 @@
 -- What the clocks give.
 use Rattle.std.specs.Prelude.{◌≡◌, ℕ, ◌-◌, ◌/◌, max, List, [], ◌∷◌, Option, Some, None, unwrap_or}
-use Rattle.tko_io.specs.Io.{capped}
+use Rattle.tko_bytes.specs.Numbers.{capped}
 use Rattle.tko_io.specs.declared.clock.FrozenClock.{FrozenClock}
 
 -- moment 0, always

@@ -1,9 +1,10 @@
 -- What a read or a write moved, and which results are failures.
-use Rattle.std.specs.Prelude.{◌≡◌, ◌<◌, ◌+◌, ◌-◌, ◌^◌, ℕ, min, List, [], take, length, nat_lt, ◌&&◌, ◌==◌, if◌then◌else◌, Result, Ok, Err}
+use Rattle.std.specs.Prelude.{◌≡◌, ◌<◌, ◌+◌, ℕ, List, [], take, length, nat_lt, ◌&&◌, ◌==◌, if◌then◌else◌, Result, Ok, Err}
 use Rattle.std.specs.IoError.{error_kind}
 use Rattle.std.specs.declared.io.Error.{Error}
 use Rattle.std.specs.declared.io.ErrorKind.{ErrorKind}
 use Rattle.std.specs.declared.io.ErrorKind.TheVariants as kind
+use Rattle.tko_bytes.specs.Numbers.{capped}
 use Rattle.tko_io.specs.declared.io.Stop.{Stop}
 use Rattle.tko_io.specs.declared.io.Stop.TheVariants.{Idle, Again, Fault}
 
@@ -58,10 +59,6 @@ read_result (Err error) = Err (read_stop (error_kind error))
 abbrev pub write_result : Result ℕ Error → Result ℕ Stop
 write_result (Ok count) = Ok count
 write_result (Err error) = Err (write_stop (error_kind error))
-
--- a number or moment that stays at 2^64 - 1
-abbrev pub capped : ℕ → ℕ
-capped n = min n (2 ^ 64 - 1)
 
 -- a text was written, and counted: the writer and the count before and after
 pub record Writes {O : Type 0} (takes : O → List ℕ → O → Type 0)

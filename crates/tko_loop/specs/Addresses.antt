@@ -1,7 +1,8 @@
 -- The addresses of a server, in turn.
-use Rattle.std.specs.Prelude.{◌≡◌, ◌+◌, ◌^◌, ◌-◌, ◌&&◌, nat_le, nat_lt, if◌then◌else◌, ℕ, List, [], ◌∷◌, Option, Some, None, Result, Ok, Err, IfOk, OnErr, length, min, slice_get}
+use Rattle.std.specs.Prelude.{◌≡◌, ◌+◌, ◌&&◌, nat_le, nat_lt, if◌then◌else◌, ℕ, List, [], ◌∷◌, Option, Some, None, Result, Ok, Err, IfOk, OnErr, length, slice_get}
 use Rattle.std.specs.declared.net.socket_addr.SocketAddr.{SocketAddr}
 use Rattle.std.specs.Net.Socket.{socket_flowinfo, socket_ip, socket_port, socket_scope_id}
+use Rattle.tko_bytes.specs.Numbers.{capped}
 use Rattle.tko_bytes.specs.declared.memory.NoMemory.{NoMemory}
 use Rattle.tko_tcp.specs.declared.named_host.NamedHost.{NamedHost}
 use Rattle.tko_tcp.specs.declared.server_host.Known.{Known}
@@ -92,7 +93,7 @@ abbrev pub taking : Addresses → Addresses
 taking it = record it {
   last = it.next;
   next = following it.next (length it.all.items);
-  tried = min (it.tried + 1) (2 ^ 64 - 1);
+  tried = capped (it.tried + 1);
 }
 
 -- the next address was taken, if there is one

@@ -1,5 +1,6 @@
 -- How much a worker serves.
-use Rattle.std.specs.Prelude.{◌≡◌, ◌+◌, ◌-◌, ◌^◌, if◌then◌else◌, ℕ, zero, suc, List, Option, count_by, is_some, length, min}
+use Rattle.std.specs.Prelude.{◌≡◌, ◌+◌, if◌then◌else◌, ℕ, zero, suc, List, Option, count_by, is_some, length}
+use Rattle.tko_bytes.specs.Numbers.{capped}
 use Rattle.tko_roster.specs.Rosters.{session_at}
 use Rattle.tko_worker.specs.declared.event_worker.EventWorker.{EventWorker}
 use Rattle.tko_worker.specs.Connections.{has_socket}
@@ -23,5 +24,5 @@ pub record IsLoadOf {L T P : Type 0} (sight : Sight L T) (worker : EventWorker L
   pub clients : load.clients ≡ clients_below worker.clients.mux.roster.slots
       (length worker.clients.mux.roster.slots)
   pub connections : load.connections ≡ count_by has_socket worker.peers.items
-  pub waiting : load.waiting ≡ min (waiting_below sight worker.clients.mux.roster.slots
-      (length worker.clients.mux.roster.slots)) (2 ^ 64 - 1)
+  pub waiting : load.waiting ≡ capped (waiting_below sight worker.clients.mux.roster.slots
+      (length worker.clients.mux.roster.slots))

@@ -1,5 +1,6 @@
 -- The page of a server's metrics.
-use Rattle.std.specs.Prelude.{◌≡◌, ℕ, ◌^◌, ◌-◌, min, List, [], ◌++◌, Option, Some, None, codes, flat_map, map, option_map, sum_by}
+use Rattle.std.specs.Prelude.{◌≡◌, ℕ, List, [], ◌++◌, Option, Some, None, codes, flat_map, map, option_map, sum_by}
+use Rattle.tko_bytes.specs.Numbers.{capped}
 use Rattle.tko_metrics.specs.declared.metrics.Metric.{Metric}
 use Rattle.tko_metrics.specs.declared.metrics.Metric.TheVariants as metric
 use Rattle.tko_metrics.specs.declared.page.Page.{Page}
@@ -33,7 +34,7 @@ requests_text sums =
 
 -- the probes of all servers
 abbrev pub probes_in_all : List Shown → ℕ
-probes_in_all servers = min (sum_by (λ server. server.reading.probes) servers) (2 ^ 64 - 1)
+probes_in_all servers = capped (sum_by (λ server. server.reading.probes) servers)
 
 unfoldable pub counts_text : Page → List ℕ
 counts_text page =

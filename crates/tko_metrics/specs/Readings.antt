@@ -1,5 +1,6 @@
 -- What the workers of a server counted together.
-use Rattle.std.specs.Prelude.{ℕ, ◌^◌, ◌-◌, min, Bool, List, find, sum_by, Option, Some, None}
+use Rattle.std.specs.Prelude.{ℕ, Bool, List, find, sum_by, Option, Some, None}
+use Rattle.tko_bytes.specs.Numbers.{capped}
 use Rattle.tko_metrics.specs.declared.reading.ServerReading.{ServerReading}
 use Rattle.tko_metrics.specs.declared.worker_meter.Marking.TheVariants.{Up}
 use Rattle.tko_metrics.specs.Marks.{is_mark}
@@ -18,5 +19,5 @@ with_mark sends probes None = record { sends = sends; probes = probes; mark = Up
 -- first worker that has one
 abbrev pub together : List ServerReading → ServerReading
 together parts =
-    with_mark (min (sum_by (λ part. part.sends) parts) (2 ^ 64 - 1))
-    (min (sum_by (λ part. part.probes) parts) (2 ^ 64 - 1)) (find is_marked_reading parts)
+    with_mark (capped (sum_by (λ part. part.sends) parts))
+    (capped (sum_by (λ part. part.probes) parts)) (find is_marked_reading parts)

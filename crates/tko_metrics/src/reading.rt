@@ -1,5 +1,6 @@
 //! What a meter says at a moment.
-ghost use Rattle.std.specs.Prelude.{◌≡◌, ◌^◌, ◌-◌, IfOk, find, map, min, string_bytes, sum_by};
+ghost use Rattle.std.specs.Prelude.{◌≡◌, IfOk, find, map, string_bytes, sum_by};
+ghost use Rattle.tko_bytes.specs.Numbers.{capped};
 ghost use Rattle.tko_metrics.specs.Readings.{is_marked_reading, together};
 
 use crate::meter::SharedMeter;
@@ -149,7 +150,7 @@ fn first_marked(parts: &[ServerReading]) -> Option<ServerReading>
 
 /// The sends of all.
 fn sends_of(parts: &[ServerReading]) -> u64
-    ensures { result ≡ min (sum_by (λ part. part.sends) parts.now) (2 ^ 64 - 1) }
+    ensures { result ≡ capped (sum_by (λ part. part.sends) parts.now) }
 {
     let mut sends = 0u64;
     for part in parts {
@@ -160,7 +161,7 @@ fn sends_of(parts: &[ServerReading]) -> u64
 
 /// The probes of all.
 fn probes_of(parts: &[ServerReading]) -> u64
-    ensures { result ≡ min (sum_by (λ part. part.probes) parts.now) (2 ^ 64 - 1) }
+    ensures { result ≡ capped (sum_by (λ part. part.probes) parts.now) }
 {
     let mut probes = 0u64;
     for part in parts {

@@ -1,5 +1,6 @@
 -- A client's session as its port sees it.
-use Rattle.std.specs.Prelude.{◌≡◌, ◌≢◌, ℕ, ◌+◌, ◌-◌, ◌^◌, List, [], ◌++◌, Option, None, IfSome, IsSome, Result, Ok, Err, length, min}
+use Rattle.std.specs.Prelude.{◌≡◌, ◌≢◌, ℕ, ◌+◌, List, [], ◌++◌, Option, None, IfSome, IsSome, Result, Ok, Err, length}
+use Rattle.tko_bytes.specs.Numbers.{capped}
 use Rattle.tko_text.specs.declared.request.Request.{Request}
 use Rattle.tko_mux.specs.declared.asking.Came.{Came}
 use Rattle.tko_mux.specs.Awaits.{IsAsking}
@@ -28,7 +29,7 @@ tally_of talk = record {
 
 -- so many more bytes were written; the number stays at 2^64 - 1
 abbrev pub taken_more : ℕ → ℕ → ℕ
-taken_more taken count = min (taken + count) (2 ^ 64 - 1)
+taken_more taken count = capped (taken + count)
 
 -- what is done with a session
 pub data TalkItem : Type 0 where

@@ -1,6 +1,6 @@
 -- How long a probe waits, and when it is due.
 use Rattle.std.specs.Prelude.{ℕ, ◌+◌, ◌*◌, ◌^◌, ◌≤◌, min}
-use Rattle.tko_io.specs.Io.{capped}
+use Rattle.tko_bytes.specs.Numbers.{capped}
 use Rattle.tko_prober.specs.declared.delays.Delays.{Delays}
 
 -- delays that can be chosen

@@ -8,7 +8,7 @@ use Rattle.tko_prober.specs.declared.prober.Probed.TheVariants.{Answered, Refuse
 use Rattle.tko_prober.specs.declared.prober.Prober.{Prober}
 use Rattle.tko_prober.specs.declared.prober.ProberStage.{ProberStage}
 use Rattle.tko_prober.specs.declared.prober.ProberStage.TheVariants.{Resting, Out, Ended}
-use Rattle.tko_io.specs.Io.{capped}
+use Rattle.tko_bytes.specs.Numbers.{capped}
 use Rattle.tko_prober.specs.Delay.{due_after}
 
 -- a prober that began at this moment: its first probe is due after the first delay

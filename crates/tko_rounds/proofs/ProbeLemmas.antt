@@ -2,7 +2,7 @@
 use Rattle.std.proofs.Common.{◌≡◌, ℕ, zero, suc, ◌+◌, ◌<◌, ◌≤◌, ◌^◌, Bool, true, false, List, [], ◌∷◌, Some, length, cond, count_by, drop, replicate, slice_get, sum_by, refl, arith}
 use Rattle.std.proofs.lemmas.List.{drop_all}
 use Rattle.std.proofs.lemmas.List.Sums.{sum_by-cons}
-use Rattle.tko_io.specs.Io.{capped}
+use Rattle.tko_bytes.specs.Numbers.{capped}
 
 -- what a place adds to the number of those that are set
 abbrev part : Bool → ℕ

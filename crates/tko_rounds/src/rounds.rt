@@ -1,7 +1,7 @@
 //! What a worker knows of its probes.
 ghost use Rattle.std.specs.Prelude.{◌≡◌, ◌<◌, IfOk, Some, count_by, length, slice_get, slice_set, sum_by};
 ghost use Rattle.std.specs.Bool.{OnFalse, OnTrue};
-ghost use Rattle.tko_io.specs.Io.{capped};
+ghost use Rattle.tko_bytes.specs.Numbers.{capped};
 ghost use Rattle.tko_rounds.specs.Probes.{IsProbeCounted, count_of, no_probes, outs, with_out};
 
 use crate::coming::is_probe;

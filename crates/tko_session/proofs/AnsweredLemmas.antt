@@ -8,7 +8,7 @@ use Rattle.tko_text.specs.Reading.{Reading, Gives, NeedsMore, Emits}
 use Rattle.tko_session.specs.Events.{Effects, SessionEvent, turns_of}
 use Rattle.tko_session.specs.declared.step.Progress.{Progress}
 use Rattle.tko_session.specs.declared.step.Progress.TheVariants.{More, NeedsInput}
-use Rattle.tko_io.specs.Io.{capped}
+use Rattle.tko_bytes.specs.Numbers.{capped}
 use Rattle.tko_io.proofs.WriteLemmas.{capped-more}
 use Rattle.tko_session.specs.SessionState.{CountsRise, SessionState, Snapshot, LeadsByEvents}
 use Rattle.tko_session.specs.SessionState.{HasAnswered, AnsweredPart, ContinuesAfterAll, IsBehind}

@@ -8,7 +8,8 @@ use Rattle.tko_reply.specs.declared.parts.Parts.{Parts}
 use Rattle.tko_reply.specs.Ghosts.{PartsGhosts}
 use Rattle.tko_text.specs.Reading.{Gives}
 use Rattle.tko_session.specs.declared.step.Progress.{Progress}
-use Rattle.tko_io.specs.Io.{Writes, capped}
+use Rattle.tko_bytes.specs.Numbers.{capped}
+use Rattle.tko_io.specs.Io.{Writes}
 use Rattle.tko_io.proofs.WriteLemmas.{writes_none}
 use Rattle.tko_bytes.specs.declared.memory.NoMemory.{NoMemory}
 use Rattle.tko_session.specs.Effects.{effects_of}

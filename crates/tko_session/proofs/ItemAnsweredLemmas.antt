@@ -20,7 +20,7 @@ use Rattle.tko_reply.specs.Ghosts.{PartsGhosts}
 use Rattle.tko_session.specs.Turns.{IsSessionTurn, SessionTurn, refused}
 use Rattle.tko_session.specs.Turns as turns
 use Rattle.tko_session.specs.declared.step.Progress.{Progress}
-use Rattle.tko_io.specs.Io.{capped}
+use Rattle.tko_bytes.specs.Numbers.{capped}
 use Rattle.tko_reply.specs.Replies.{reply_bound, sends_to}
 use Rattle.tko_session.specs.SessionState.{SessionState, HasAnswered, Replied, ProgressIs}
 use Rattle.tko_session.specs.SessionState.{progress_after, progress_of, snapshot}

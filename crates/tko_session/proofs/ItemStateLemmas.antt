@@ -6,7 +6,7 @@ use Rattle.tko_text.specs.declared.request.Request.{Request}
 use Rattle.tko_text.specs.Requests.{fault_text}
 use Rattle.tko_text.specs.Reading.{Emits, NeedsMore}
 use Rattle.tko_pools.specs.Configs.{Configuration}
-use Rattle.tko_io.specs.Io.{capped}
+use Rattle.tko_bytes.specs.Numbers.{capped}
 use Rattle.tko_route.specs.declared.attempt.Attempt.{Attempt}
 use Rattle.tko_reply.specs.Answers.{IsKeyed}
 use Rattle.tko_reply.specs.Interactions.{Interaction, Recorded}

@@ -8,7 +8,7 @@ use Rattle.tko_text.specs.declared.item.Item.TheVariants as item
 use Rattle.tko_text.specs.Reading.{Emits, Gives, Reading, fed, reading_start}
 use Rattle.tko_text.proofs.GivesLemmas.{Gives-none, Gives-push}
 use Rattle.tko_pools.specs.Configs.{Configuration}
-use Rattle.tko_io.specs.Io.{capped}
+use Rattle.tko_bytes.specs.Numbers.{capped}
 use Rattle.tko_reply.specs.Interactions.{Interaction}
 use Rattle.tko_reply.specs.Standing.{SentKey}
 use Rattle.tko_reply.specs.declared.asking.OneKey.{OneKey}

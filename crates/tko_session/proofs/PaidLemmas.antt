@@ -16,7 +16,7 @@ use Rattle.tko_reply.specs.Ghosts.{PartsGhosts}
 use Rattle.tko_prober.specs.Probers.{AreQuiet}
 use Rattle.tko_prober.specs.Round.{probes_in, ran_out}
 use Rattle.tko_session.specs.declared.step.Progress.{Progress}
-use Rattle.tko_io.specs.Io.{capped}
+use Rattle.tko_bytes.specs.Numbers.{capped}
 use Rattle.tko_session.specs.SessionState.{CountsRise, SessionState, Snapshot, LeadsByEvents}
 use Rattle.tko_session.specs.SessionState.{HasAnswered, ProgressIs, BeginBelowBound, snapshot}
 use Rattle.tko_session.specs.SessionState.{items_of, replies_text, requests_in}

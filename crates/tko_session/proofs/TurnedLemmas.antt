@@ -5,7 +5,7 @@ use Rattle.tko_text.specs.declared.item.Item.{Item}
 use Rattle.tko_text.specs.declared.item.Item.TheVariants as item
 use Rattle.tko_text.specs.Reading.{Emits, EmitsEach, Gives, Reading, fed, reading_start}
 use Rattle.tko_pools.specs.Configs.{Configuration}
-use Rattle.tko_io.specs.Io.{capped}
+use Rattle.tko_bytes.specs.Numbers.{capped}
 use Rattle.tko_reply.specs.Interactions.{Interaction, Recorded}
 use Rattle.tko_reply.specs.TrailEvents.{Asked}
 use Rattle.tko_keys.specs.KeysState.{KeysState}

@@ -17,7 +17,7 @@ use Rattle.tko_route.specs.Trail.{form_at}
 use Rattle.tko_route.specs.declared.attempt.Attempt.{Attempt}
 use Rattle.tko_route.specs.declared.routing.Stage.{Stage}
 use Rattle.tko_route.specs.declared.routing.Stage.TheVariants as stage
-use Rattle.tko_io.specs.Io.{capped}
+use Rattle.tko_bytes.specs.Numbers.{capped}
 use Rattle.tko_reply.specs.Answers.{AnswersItself}
 use Rattle.tko_reply.specs.Asking.{BeginsAt, ContinuesKeys, Goes, GoesTo, IsFirst, IsJoined, course_of}
 use Rattle.tko_reply.specs.Cuts.{EndsBy, IsBeginCut, KeyLost}

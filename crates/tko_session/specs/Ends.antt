@@ -1,6 +1,7 @@
 -- How a session ends, and how the steps of its loop do: what holds for each result.
 use Rattle.std.specs.Prelude.{◌≡◌, ◌≢◌, ◌<◌, ℕ, Bool, List, [], Result, Ok, Err}
-use Rattle.tko_io.specs.Io.{Writes, WritesPart, capped}
+use Rattle.tko_bytes.specs.Numbers.{capped}
+use Rattle.tko_io.specs.Io.{Writes, WritesPart}
 use Rattle.tko_io.specs.declared.io.Outlet.{Ghosts as OutletGhosts}
 use Rattle.tko_session.specs.declared.fault.SessionFault.{SessionFault}
 use Rattle.tko_session.specs.declared.fault.SessionFault.TheVariants.{Read, Write, LineTooLong, Memory}

@@ -5,7 +5,8 @@ use Rattle.tko_text.specs.declared.item.Item.{Item}
 use Rattle.tko_text.specs.declared.item.Item.TheVariants as item
 use Rattle.tko_text.specs.declared.request.Request.{Request}
 use Rattle.tko_text.specs.Reading.{Reading, Emits, Gives, NeedsMore, reading_start, fed}
-use Rattle.tko_io.specs.Io.{Writes, capped}
+use Rattle.tko_bytes.specs.Numbers.{capped}
+use Rattle.tko_io.specs.Io.{Writes}
 use Rattle.tko_io.specs.declared.io.Inlet.{Ghosts as InletGhosts}
 use Rattle.tko_io.specs.declared.io.Outlet.{Ghosts as OutletGhosts}
 use Rattle.tko_session.specs.declared.step.Progress.{Progress}

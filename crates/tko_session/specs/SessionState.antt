@@ -15,7 +15,7 @@ use Rattle.tko_session.specs.declared.step.Progress.TheVariants as progress
 use Rattle.tko_session.specs.Working.{Work}
 use Rattle.tko_session.specs.Working as work
 use Rattle.tko_session.specs.Events.{Effects, NoneAtWork, NoneShort, SessionEvent, idle_rounds, owed_after, turns_of, visits_of}
-use Rattle.tko_io.specs.Io.{capped}
+use Rattle.tko_bytes.specs.Numbers.{capped}
 use Rattle.tko_reply.specs.Replies.{RoutedKey, reply_bound, sends_to, trails_in}
 use Rattle.tko_prober.specs.Round.{probes_in}
 use Rattle.tko_reply.specs.Ghosts.{PartsGhosts}

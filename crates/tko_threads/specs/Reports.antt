@@ -2,7 +2,7 @@
 use Rattle.std.specs.Prelude.{◌≡◌, ◌+◌, ◌||◌, Bool, false, true, List, Result, Ok, Err}
 use Rattle.std.specs.List.{list_any, sum_by}
 use Rattle.tko_threads.specs.declared.report.WorkerReport.{WorkerReport}
-use Rattle.tko_io.specs.Io.{capped}
+use Rattle.tko_bytes.specs.Numbers.{capped}
 use Rattle.tko_metrics.specs.declared.worker_meter.Ending.{Ending}
 use Rattle.tko_metrics.specs.declared.worker_meter.Ending.TheVariants as ending
 use Rattle.tko_session.specs.declared.fault.SessionFault.{SessionFault}

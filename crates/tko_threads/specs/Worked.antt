@@ -2,7 +2,7 @@
 -- client after another, runs rounds while there is none, and settles what it counted.
 use Rattle.std.specs.Prelude.{◌≡◌, ℕ, zero, suc, ◌+◌, ◌-◌, ◌||◌, Bool, List, Result, length}
 use Rattle.tko_model.specs.Records.{Gains}
-use Rattle.tko_io.specs.Io.{capped}
+use Rattle.tko_bytes.specs.Numbers.{capped}
 use Rattle.tko_io.specs.declared.io.Inlet.{Ghosts as InletGhosts}
 use Rattle.tko_io.specs.declared.io.Outlet.{Ghosts as OutletGhosts}
 use Rattle.tko_prober.specs.Ghosts.{BackendGhosts}

@@ -1,7 +1,7 @@
 //! A worker: one thread that serves one connection after another.
 ghost use Rattle.std.specs.Prelude.{◌≡◌, ◌≤◌, Bool, Result, false, length};
 ghost use Rattle.tko_health.specs.Seating.{Leaves};
-ghost use Rattle.tko_io.specs.Io.{capped};
+ghost use Rattle.tko_bytes.specs.Numbers.{capped};
 ghost use Rattle.tko_session.specs.declared.fault.SessionFault.{SessionFault};
 ghost use Rattle.tko_session.specs.declared.step.Report.{Report};
 ghost use Rattle.tko_threads.specs.Reports.{ending_of};

@@ -1,5 +1,6 @@
 -- How many clients ended, by how they did.
-use Rattle.std.specs.Prelude.{ℕ, ◌+◌, ◌-◌, ◌^◌, min}
+use Rattle.std.specs.Prelude.{ℕ, ◌+◌}
+use Rattle.tko_bytes.specs.Numbers.{capped}
 use Rattle.tko_mux.specs.Muxes.{MuxState}
 use Rattle.tko_port.specs.declared.guest.Guest.{Guest}
 use Rattle.tko_port.specs.declared.guest.SharedParts.{SharedParts}
@@ -12,7 +13,7 @@ no_ends = record { finished = 0; line_too_long = 0; memory = 0; read = 0; write 
 
 -- one more; the number stays at 2^64 - 1
 abbrev pub one_more : ℕ → ℕ
-one_more count = min (count + 1) (2 ^ 64 - 1)
+one_more count = capped (count + 1)
 
 -- an end was counted
 abbrev pub counted_end : End → EndCounts → EndCounts

@@ -1,5 +1,5 @@
 use Rattle.std.proofs.Common.{◌≡◌, ◌+◌, ◌<◌, ◌^◌, drop, sum_by}
-use Rattle.tko_io.specs.Io.{capped}
+use Rattle.tko_bytes.specs.Numbers.{capped}
 use Rattle.tko_rounds.proofs.rounds.sum_of.Given as goal
 
 abbrev pub invariant-loop-count : goal.invariant-loop-count

@@ -1,5 +1,5 @@
 use Rattle.std.proofs.Common.{◌≡◌}
-use Rattle.tko_io.specs.Io.{capped}
+use Rattle.tko_bytes.specs.Numbers.{capped}
 use Rattle.tko_threads.specs.Worked.{probes_below}
 use Rattle.tko_threads.proofs.working.probes_of.Given as goal
 

@@ -1,6 +1,6 @@
 use Rattle.std.proofs.Common.{◌≡◌, ◌≤◌, ◌+◌, ◌||◌, drop}
 use Rattle.std.specs.List.{list_any, sum_by}
-use Rattle.tko_io.specs.Io.{capped}
+use Rattle.tko_bytes.specs.Numbers.{capped}
 use Rattle.tko_threads.proofs.report.WorkerReport.of_all.Given as goal
 
 abbrev pub invariant-loop-one : goal.invariant-loop-one
