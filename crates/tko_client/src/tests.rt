@@ -20,11 +20,7 @@ use tko_session::{Kept, Parts};
 /// The first failure marks a server.
 const SETTINGS: OneGroup = OneGroup {
     servers: 2,
-    threads: 1,
-    failures: 1,
-    limit: 40,
-    tries: 8,
-    opening_stamp: 0,
+    ..OneGroup::SMALL
 };
 
 pub(crate) type MemoryLent<'r, R> = Lent<'r, R, PlainHealth, Kept, FrozenClock>;

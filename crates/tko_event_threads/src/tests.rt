@@ -20,14 +20,7 @@ use tko_prober::{Delays, Probers};
 use tko_threads::{Account, WorkerReport};
 
 /// One server and one thread.
-const SETTINGS: OneGroup = OneGroup {
-    servers: 1,
-    threads: 1,
-    failures: 1,
-    limit: 40,
-    tries: 8,
-    opening_stamp: 0,
-};
+const SETTINGS: OneGroup = OneGroup::SMALL;
 
 /// Names these settings.
 struct One;

@@ -13,10 +13,9 @@ use tko_tracker::{IdlePass, Named, Tracker, open};
 const SETTINGS: OneGroup = OneGroup {
     servers: 2,
     threads: 2,
-    failures: 1,
     limit: 1,
     tries: 3,
-    opening_stamp: 0,
+    ..OneGroup::SMALL
 };
 
 /// Names these settings.

@@ -14,11 +14,7 @@ use tko_text::{Key, Keys, Request};
 /// The first failure marks a server.
 const SETTINGS: OneGroup = OneGroup {
     servers: 2,
-    threads: 1,
-    failures: 1,
-    limit: 40,
-    tries: 8,
-    opening_stamp: 0,
+    ..OneGroup::SMALL
 };
 
 fn config(alloc: Global) -> Result<Config, Fail> {

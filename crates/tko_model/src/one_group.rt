@@ -24,6 +24,17 @@ pub struct OneGroup {
 }
 
 impl OneGroup {
+    /// For tests, which name what differs: one server and one thread, where the first failure marks
+    /// the server, and the limit is one that no test meets.
+    pub const SMALL: OneGroup = OneGroup {
+        servers: 1,
+        threads: 1,
+        failures: 1,
+        limit: 40,
+        tries: 8,
+        opening_stamp: 0,
+    };
+
     /// The settings, with group 0 for each server. They need not be in their ranges.
     pub fn settings(&self, alloc: Global) -> Result<Settings, NoMemory>
         ensures { IfOk result (λ settings. settings ≡ in_one_group self.now) }

@@ -11,8 +11,7 @@ const SETTINGS: OneGroup = OneGroup {
     threads: 2,
     failures: 2,
     limit: 1,
-    tries: 8,
-    opening_stamp: 0,
+    ..OneGroup::SMALL
 };
 
 /// Applies an operation whose thread and server are in range.

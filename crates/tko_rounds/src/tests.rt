@@ -20,11 +20,7 @@ use tko_worker::EventWorker;
 /// The first failure marks a server.
 const SETTINGS: OneGroup = OneGroup {
     servers: 2,
-    threads: 1,
-    failures: 1,
-    limit: 40,
-    tries: 8,
-    opening_stamp: 0,
+    ..OneGroup::SMALL
 };
 
 type MemoryLent<'r, R> = Lent<'r, R, PlainHealth, Kept, FrozenClock>;

@@ -25,14 +25,7 @@ const PATIENCE: Patience = Patience {
     idle_timeout: 0,
 };
 
-const ONE_WORKER: OneGroup = OneGroup {
-    servers: 1,
-    threads: 1,
-    failures: 1,
-    limit: 40,
-    tries: 8,
-    opening_stamp: 0,
-};
+const ONE_WORKER: OneGroup = OneGroup::SMALL;
 
 fn listen<R: Net<Stream = TcpStream, Listener = TcpListener>>(rt: &R) -> io::Result<TcpListener> {
     TcpListener::bind(rt, SocketAddr::from((Ipv4Addr::LOCALHOST, 0)))

@@ -23,11 +23,7 @@ use tko_text::Request;
 /// The first failure marks a server.
 const SETTINGS: OneGroup = OneGroup {
     servers: 2,
-    threads: 1,
-    failures: 1,
-    limit: 40,
-    tries: 8,
-    opening_stamp: 0,
+    ..OneGroup::SMALL
 };
 
 /// Writes down what it is told, a line each. Contracts see nothing of it.

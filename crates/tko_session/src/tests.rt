@@ -16,14 +16,7 @@ use tko_prober::Delays;
 use tko_route::{Attempt, Health, PlainHealth};
 
 /// The first failure marks the server.
-const SETTINGS: OneGroup = OneGroup {
-    servers: 1,
-    threads: 1,
-    failures: 1,
-    limit: 40,
-    tries: 8,
-    opening_stamp: 0,
-};
+const SETTINGS: OneGroup = OneGroup::SMALL;
 
 type OneServer = Parts<PlainHealth, Scripted, Kept, ListedClock>;
 

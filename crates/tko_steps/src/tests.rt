@@ -8,10 +8,9 @@ use tko_model::{Mark, OneGroup, Op, OpenFault, Reply, ServerState, Settings};
 const SETTINGS: OneGroup = OneGroup {
     servers: 2,
     threads: 2,
-    failures: 1,
     limit: 1,
     tries: 3,
-    opening_stamp: 0,
+    ..OneGroup::SMALL
 };
 
 /// A line of a run: a call that begins, or a step with the word that it leaves.

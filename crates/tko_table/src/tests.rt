@@ -19,12 +19,9 @@ use tko_model::{Mark, OneGroup, Op, OpenFault, Reply, ServerState, SettingsFault
 use tko_steps::{Action, Call, Decision, Observed, Phase, Slots, StepKind, ThreadState, next};
 
 const SETTINGS: OneGroup = OneGroup {
-    servers: 1,
     threads: 2,
-    failures: 1,
     limit: 2,
-    tries: 8,
-    opening_stamp: 0,
+    ..OneGroup::SMALL
 };
 
 fn is_small(mark: Mark) -> bool

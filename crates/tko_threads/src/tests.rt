@@ -23,12 +23,8 @@ const PATIENCE: Patience = Patience {
 
 /// One server, which one soft failure marks, and two threads.
 const SETTINGS: OneGroup = OneGroup {
-    servers: 1,
     threads: 2,
-    failures: 1,
-    limit: 40,
-    tries: 8,
-    opening_stamp: 0,
+    ..OneGroup::SMALL
 };
 
 /// Names these settings.

@@ -13,10 +13,9 @@ use tko_model::{Look, Mark, OneGroup, Op, Reply};
 const SETTINGS: OneGroup = OneGroup {
     servers: 2,
     threads: 2,
-    failures: 1,
     limit: 1,
     tries: 3,
-    opening_stamp: 0,
+    ..OneGroup::SMALL
 };
 
 /// The last two passes, woken.

@@ -12,12 +12,10 @@ use tko_model::OneGroup;
 use tko_tracker::{IdlePass, Named, Tracker, close, open};
 
 const SETTINGS: OneGroup = OneGroup {
-    servers: 1,
     threads: 3,
-    failures: 1,
     limit: 1,
     tries: 1,
-    opening_stamp: 0,
+    ..OneGroup::SMALL
 };
 
 /// Takes all passes, gives one back, and takes it again. Returns the numbers of the passes that it

@@ -22,12 +22,10 @@ use tko_model::OneGroup;
 use tko_tracker::{IdlePass, Named, Tracker, close, open};
 
 const SETTINGS: OneGroup = OneGroup {
-    servers: 1,
     threads: 3,
     failures: 3,
     limit: 1,
-    tries: 8,
-    opening_stamp: 0,
+    ..OneGroup::SMALL
 };
 
 /// What is left once the three are done.

@@ -9,10 +9,9 @@ use tko_steps::{Place, StepKind, Word};
 const TWO_OF_EACH: OneGroup = OneGroup {
     servers: 2,
     threads: 2,
-    failures: 1,
     limit: 1,
     tries: 3,
-    opening_stamp: 0,
+    ..OneGroup::SMALL
 };
 
 fn enrolment(thread: usize, found: u32, left: u32) -> Event {

@@ -17,10 +17,8 @@ use tko_table::{Seat, Words};
 const SETTINGS: OneGroup = OneGroup {
     servers: 2,
     threads: 2,
-    failures: 1,
     limit: 1,
-    tries: 8,
-    opening_stamp: 0,
+    ..OneGroup::SMALL
 };
 
 /// Takes the first steps of a call of the thread with this number on server 0, and no other.

@@ -9,12 +9,8 @@ use std::test::Fail;
 use tko_model::{Mark, OneGroup, Op, OpenFault, Reply, Settings, SettingsFault};
 
 const SETTINGS: OneGroup = OneGroup {
-    servers: 1,
-    threads: 1,
-    failures: 1,
     limit: 1,
-    tries: 8,
-    opening_stamp: 0,
+    ..OneGroup::SMALL
 };
 
 /// From this stamp on an unmarked server takes no change.

@@ -14,8 +14,7 @@ const SETTINGS: OneGroup = OneGroup {
     threads: 4,
     failures: 2,
     limit: 1,
-    tries: 8,
-    opening_stamp: 0,
+    ..OneGroup::SMALL
 };
 
 const OPS: [Op; 5] = [

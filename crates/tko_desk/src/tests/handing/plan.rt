@@ -7,11 +7,9 @@ use tko_model::{Mark, OneGroup, Op, Plain, Reply};
 
 pub(super) const SETTINGS: OneGroup = OneGroup {
     servers: 2,
-    threads: 1,
     failures: 2,
     limit: 1,
-    tries: 8,
-    opening_stamp: 0,
+    ..OneGroup::SMALL
 };
 
 /// How many calls are made.
