@@ -11,31 +11,21 @@ use Rattle.tko_text.specs.declared.response.Response.TheVariants.{Values}
 use Rattle.tko_text.specs.Responses.{found_text, response_text, value_text}
 
 -- `a` is the first word, `e` ends a line and `g` is the line `END`
-joined : (a k s f z e d g : List ℕ)
-    → a ++ (k ++ (s ++ (f ++ (s ++ (z ++ (e ++ (d ++ ((e ++ g) ++ []))))))))
-    ≡ (a ++ k ++ s ++ f ++ s ++ z ++ [] ++ e ++ d ++ e) ++ g
-joined a k s f z e d g = simp (append_assoc, append-nil)
+joined : (a k s f z b c e d g : List ℕ)
+    → a ++ (k ++ (s ++ (f ++ (s ++ (z ++ (b ++ (c ++ (e ++ (d ++ ((e ++ g) ++ []))))))))))
+    ≡ (a ++ k ++ s ++ f ++ s ++ z ++ (b ++ c) ++ e ++ d ++ e) ++ g
+joined a k s f z b c e d g = simp (append_assoc, append-nil)
 
-joined_with : (a k s f z c e d g : List ℕ)
-    → a ++ (k ++ (s ++ (f ++ (s ++ (z ++ (s ++ (c ++ (e ++ (d ++ ((e ++ g) ++ []))))))))))
-    ≡ (a ++ k ++ s ++ f ++ s ++ z ++ (s ++ c) ++ e ++ d ++ e) ++ g
-joined_with a k s f z c e d g = simp (append_assoc, append-nil)
-
-pub plain_pieces : (v : Value) (key flags size stored last end : List ℕ) → key ≡ v.key → flags ≡ decimal v.flags → size ≡ decimal (length stored) → stored ≡ v.data
+pub value_in_a_row : (v : Value) (key flags size space cas stored last end : List ℕ) → key ≡ v.key
+    → flags ≡ decimal v.flags → size ≡ decimal (length stored) → stored ≡ v.data
     → last ≡ codes "\r\n" ++ end
-    → codes "VALUE " ++ (key ++ (codes " " ++ (flags ++ (codes " " ++ (size ++ (codes "\r\n" ++ (stored ++ (last ++ []))))))))
-    ≡ found_text v [] ++ end
-plain_pieces v key flags size stored last end keys same_flags sizes same ends =
+    → codes "VALUE " ++ (key ++ (codes " " ++ (flags ++ (codes " " ++ (size ++ (space ++ (cas
+    ++ (codes "\r\n" ++ (stored ++ (last ++ []))))))))))
+    ≡ found_text v (space ++ cas) ++ end
+value_in_a_row v key flags size space cas stored last end keys same_flags sizes same ends =
     rw (keys, same_flags, sizes, same, ends)
-    (joined (codes "VALUE ") v.key (codes " ") (decimal v.flags) (decimal (length v.data)) (codes "\r\n") v.data end)
-
-pub unique_pieces : (v : Value) (key flags size cas stored last end : List ℕ) (unique : ℕ) → key ≡ v.key → flags ≡ decimal v.flags → size ≡ decimal (length stored)
-    → cas ≡ decimal unique → stored ≡ v.data → last ≡ codes "\r\n" ++ end
-    → codes "VALUE " ++ (key ++ (codes " " ++ (flags ++ (codes " " ++ (size ++ (codes " " ++ (cas ++ (codes "\r\n" ++ (stored ++ (last ++ []))))))))))
-    ≡ found_text v (codes " " ++ decimal unique) ++ end
-unique_pieces v key flags size cas stored last end unique keys same_flags sizes same_cas same ends =
-    rw (keys, same_flags, sizes, same_cas, same, ends)
-    (joined_with (codes "VALUE ") v.key (codes " ") (decimal v.flags) (decimal (length v.data)) (decimal unique) (codes "\r\n") v.data end)
+    (joined (codes "VALUE ") v.key (codes " ") (decimal v.flags) (decimal (length v.data)) space
+    cas (codes "\r\n") v.data end)
 
 -- what follows of what holds at an Ok
 pub on_ok_then : {A E P Q : Type 0} (result : Result A E) → (P → Q) → OnOk result P → OnOk result Q

@@ -133,22 +133,35 @@ fn append_parts<'a>(
     ensures err { OnErr result (out.new.items ≡ out.old.items) }
 {
     match unique {
-        None => append_plain(key, flags, bytes, last, out),
-        Some(unique) => append_unique(key, flags, bytes, unique, last, out),
+        None => append_pieces(key, flags, bytes, b"", b"", last, out),
+        Some(unique) => {
+            let mut digits = Buffer::new();
+            append_pieces(
+                key,
+                flags,
+                bytes,
+                b" ",
+                digits.format(unique).as_bytes(),
+                last,
+                out,
+            )
+        }
     }
 }
 
-/// The same for a value without a cas number.
-fn append_plain<'a>(
+/// The same with this space and cas number, or two empty texts.
+fn append_pieces<'a>(
     key: &'a Key,
     flags: u32,
     bytes: &'a [u8],
+    space: &'a [u8],
+    unique: &'a [u8],
     last: &'a [u8],
     out: &mut Vec<u8>,
 ) -> Result<(), NoMemory>
     ensures ok { OnOk result ((end : List ℕ) → last.now ≡ codes "\r\n" ++ end
-        → out.new.items
-        ≡ out.old.items ++ found_text (parts key.now flags bytes.now None) [] ++ end) }
+        → out.new.items ≡ out.old.items ++ found_text
+        (parts key.now flags bytes.now None) (space.now ++ unique.now) ++ end) }
     ensures err { OnErr result (out.new.items ≡ out.old.items) }
 {
     let (mut flag_digits, mut size) = (Buffer::new(), Buffer::new());
@@ -159,37 +172,8 @@ fn append_plain<'a>(
         flag_digits.format(flags).as_bytes(),
         b" ",
         size.format(bytes.len()).as_bytes(),
-        b"\r\n",
-        bytes,
-        last,
-    ];
-    append(out, &pieces)
-}
-
-/// The same for one with this cas number.
-fn append_unique<'a>(
-    key: &'a Key,
-    flags: u32,
-    bytes: &'a [u8],
-    unique: u64,
-    last: &'a [u8],
-    out: &mut Vec<u8>,
-) -> Result<(), NoMemory>
-    ensures ok { OnOk result ((end : List ℕ) → last.now ≡ codes "\r\n" ++ end
-        → out.new.items ≡ out.old.items ++ found_text
-        (parts key.now flags bytes.now (Some unique)) (codes " " ++ decimal unique) ++ end) }
-    ensures err { OnErr result (out.new.items ≡ out.old.items) }
-{
-    let (mut flag_digits, mut size, mut cas) = (Buffer::new(), Buffer::new(), Buffer::new());
-    let pieces = [
-        b"VALUE ",
-        key.as_bytes(),
-        b" ",
-        flag_digits.format(flags).as_bytes(),
-        b" ",
-        size.format(bytes.len()).as_bytes(),
-        b" ",
-        cas.format(unique).as_bytes(),
+        space,
+        unique,
         b"\r\n",
         bytes,
         last,
