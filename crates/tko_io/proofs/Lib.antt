@@ -1,2 +1,2 @@
-mod ListLemmas
+pub mod ListLemmas
 pub mod WriteLemmas

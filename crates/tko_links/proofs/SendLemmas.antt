@@ -4,8 +4,8 @@ use Rattle.std.proofs.Common.{take, drop, refl, ap, sym, ◌∙◌, arith, appen
 use Rattle.std.proofs.Common.{Ok, Err}
 use Rattle.std.specs.List.{concat}
 use Rattle.std.proofs.lemmas.List.{length-take-le, map-append, take-append-drop, take_all}
-use Rattle.std.proofs.Math.Seq.{take-add}
 use Rattle.std.proofs.lemmas.List.Folds.{concat-append}
+use Rattle.tko_io.proofs.ListLemmas.{take-next}
 use Rattle.tko_links.specs.declared.fault.LinkFault.TheVariants as fault
 use Rattle.tko_links.specs.declared.wire.WireFault.{WireFault}
 use Rattle.tko_links.specs.declared.wire.WireFault.TheVariants as wire_fault
@@ -28,14 +28,6 @@ pub concat_push : (pieces : List (List ℕ)) (piece : List ℕ)
     → concat (pieces ++ piece ∷ []) ≡ concat pieces ++ piece
 concat_push pieces piece =
     concat-append pieces (piece ∷ []) ∙ ap (λ xs. concat pieces ++ xs) (append-nil piece)
-
--- the front of a text, and then the front of what follows it
-take_next : (xs : List ℕ) (n more : ℕ) → take (n + more) xs ≡ take n xs
-    ++ take more (take (length xs - n) (drop n xs))
-take_next xs n more =
-    take-add n more xs
-    ∙ ap (λ rest. take n xs ++ take more rest)
-    (sym (take_all (length xs - n) (drop n xs) (omega (arith, length-drop n xs))))
 
 front_of : (bytes text : List ℕ) (at : ℕ) → bytes ≡ take at text → BeginsText bytes text
 front_of bytes text at e = record {
@@ -68,7 +60,7 @@ module _ {W : Type 0} {servers : W → ℕ} {connected : W → ℕ → Bool} {fa
         part = part_as (sym (map-append (Wrote server) front.pieces (piece ∷ [])))
             (part_append front.part last);
         whole = concat_push front.pieces piece ∙ ap (λ xs. xs ++ piece) front.whole
-            ∙ sym (take_next text at count);
+            ∙ sym (take-next text at count);
       }
 
   pub part_got : {old mid new : W} (pieces : List (List ℕ)) (piece : List ℕ)

@@ -4,7 +4,7 @@ mod InOrderLemmas
 mod JsonLemmas
 mod KnownLemmas
 mod LimitLemmas
-mod NumberingLemmas
+pub mod NumberingLemmas
 mod OwnerLemmas
 mod ReasonLemmas
 mod RouteLemmas

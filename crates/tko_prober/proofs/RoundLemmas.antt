@@ -22,12 +22,12 @@ use Rattle.tko_prober.specs.declared.rounds.ProbeEnd.{ProbeEnd}
 use Rattle.tko_prober.proofs.HalfLemmas.{set_again}
 use Rattle.tko_prober.proofs.ProberLemmas.{begun-quiet, prober-quiet, prober-set}
 
-numbers_below-more : (count : ℕ) → numbers_below (count + 1) ≡ numbers_below count ++ count ∷ []
+pub numbers_below-more : (count : ℕ) → numbers_below (count + 1) ≡ numbers_below count ++ count ∷ []
 numbers_below-more count =
     sym (map-id (numbers_below (count + 1))) ∙ map-range_with_len_more (λ (n : ℕ). n) 0 count count (zero-add count)
     ∙ ap (λ xs. xs ++ count ∷ []) (map-id (numbers_below count))
 
-or-false : (b : Bool) → (b || false) ≡ b
+pub or-false : (b : Bool) → (b || false) ≡ b
 or-false true = refl
 or-false false = refl
 

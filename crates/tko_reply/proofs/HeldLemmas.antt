@@ -1,6 +1,6 @@
 -- Laws of where the reply to a request begins, while its keys are asked for.
-use Rattle.std.proofs.Common.{◌≡◌, ◌≤◌, ℕ, true, false, List, ◌++◌, length, length-append, take}
-use Rattle.std.proofs.Common.{refl, sym, ap, subst, ◌∙◌, arith}
+use Rattle.std.proofs.Common.{◌≡◌, ◌≤◌, ℕ, true, List, ◌++◌, length, length-append, take}
+use Rattle.std.proofs.Common.{refl, sym, ap, subst, ◌∙◌, arith, true≢false}
 use Rattle.std.proofs.lemmas.List.{take_at, take-append-le, length-take-le}
 use Rattle.tko_text.specs.declared.request.Request.{Request}
 use Rattle.tko_text.specs.declared.response.Response.{Response}
@@ -136,17 +136,14 @@ first_held begin request outbox one from (asked.alone single is) =
 first_held begin request outbox one from (asked.of_several key left unique is e) =
     subst (λ (o : OneKey). BeginsAt begin o.share outbox) (sym e) (sym from, omega (arith, from))
 
-true_or_false : true ≡ false → ⊥
-true_or_false e = cc
-
 -- the next of several keys
 pub next_held : (begin : ℕ) (one other : OneKey) (outbox outbox' : List ℕ)
     → BeginsAt begin one.share outbox → ContinuesKeys one outbox true other outbox'
     → BeginsAt begin other.share outbox'
 next_held begin one other outbox outbox' held (asked.complete silent kind over same) =
-    absurd (true_or_false over)
+    absurd (true≢false over)
 next_held begin one other outbox outbox' held (asked.last first kind over same) =
-    absurd (true_or_false over)
+    absurd (true≢false over)
 next_held begin one other outbox outbox' held (asked.next first key left kind on alike then same) =
     let held' : (first ≡ begin) × (begin ≤ length outbox) =
     subst (λ k. BeginsAt begin k outbox) kind held in

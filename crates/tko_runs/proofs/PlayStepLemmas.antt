@@ -11,7 +11,7 @@ use Rattle.tko_runs.specs.declared.run.event.SkippedTurn.TheVariants as skipped
 use Rattle.tko_model.specs.declared.layout.Layout.{Layout}
 use Rattle.tko_model.specs.declared.layout.Layout.TheVariants as layout
 use Rattle.tko_model.specs.Limits.{max_failures, max_limit, max_servers, max_threads, max_tries, worn}
-use Rattle.tko_model.specs.Ranges.{IsWithin, IsWithinRanges, first_fault_in, is_within}
+use Rattle.tko_model.specs.Ranges.{IsWithin, first_fault_in, is_within}
 use Rattle.tko_model.proofs.RangeLemmas.{are_within-all, has_groups-all}
 use Rattle.tko_runs.specs.Plays.{Played, after_all_turns, after_command, after_commands, after_turn, command_turns, enrolled, enrolments, named_by, opened_play, played, played_begin, with_event, with_skip, with_skips}
 use Rattle.tko_runs.specs.Plays as plays
@@ -172,22 +172,6 @@ first_fault-within layout s is =
       is_within-true 0 worn s.opening_stamp (omega arith) is.stamp,
       has_groups-all layout s is,
     ) refl
-
--- the ranges of the first layout lie in those of the second
-pub within_two : (layout : Layout) (s : Settings) → IsWithin layout s → IsWithinRanges s
-within_two layout.One s is =
-    record {
-      servers = is.servers;
-      threads = (is.threads.0, omega (arith, is.threads.1));
-      failures = (is.failures.0, omega (arith, is.failures.1));
-      limits = is.limits;
-      tries = is.tries;
-      stamp = is.stamp;
-      groups = is.groups;
-      grouped = is.grouped;
-      in_groups = is.in_groups;
-    }
-within_two layout.Two s is = is
 
 after_all-push : (p : Played) (turns : List Turn) (turn : Turn)
     → after_all_turns p (turns ++ turn ∷ []) ≡ after_turn (after_all_turns p turns) turn

@@ -77,7 +77,7 @@ sound-open s thread call steps now (Loosening found mark answer) knows = sound-q
 sound-open s thread call steps now (Loosened found mark answer) knows = sound-quiet s (open_call thread call steps) refl knows.0
 sound-open s thread call steps now (Emptied answer) knows = sound-done s (open_call thread call steps) answer refl knows
 
-IsNotNewer-trans : (one mid other : ServerState) → IsNotNewer one mid → IsNotNewer mid other → IsNotNewer one other
+pub IsNotNewer-trans : (one mid other : ServerState) → IsNotNewer one mid → IsNotNewer mid other → IsNotNewer one other
 IsNotNewer-trans one mid other first second =
     ⊎_elim
     (λ (same : one ≡ mid). let P : ServerState → Type 0 = λ it. IsNotNewer it other in subst P (sym same) second)
@@ -89,7 +89,7 @@ IsNotNewer-trans one mid other first second =
     first
 
 -- a word that is neither older nor newer is the same
-IsNotNewer-same : (one mid other : ServerState) → IsNotNewer one mid → IsNotNewer mid other → one ≡ other → mid ≡ one
+pub IsNotNewer-same : (one mid other : ServerState) → IsNotNewer one mid → IsNotNewer mid other → one ≡ other → mid ≡ one
 IsNotNewer-same one mid other first second same =
     ⊎_elim
     (λ (is : one ≡ mid). sym is)

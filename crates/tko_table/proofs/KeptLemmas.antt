@@ -20,6 +20,7 @@ use Rattle.tko_steps.specs.Steps.{decided_state, is_done}
 use Rattle.tko_steps.specs.Invariant.{IsCore}
 use Rattle.tko_steps.specs.Table.{action_of, next_of}
 use Rattle.tko_steps.proofs.PhaseStepLemmas.{IsCore-after_act}
+use Rattle.tko_steps.proofs.OwnLemmas.{number-after-step}
 use Rattle.tko_table.specs.declared.pass.Change.{Change}
 use Rattle.tko_table.specs.declared.pass.PassView.{PassView}
 use Rattle.tko_table.specs.History.{Begins, Replays, change_by, changes_in, made_by}
@@ -30,7 +31,7 @@ use Rattle.tko_table.specs.Rule.{IsKept, IsPlanned, core_in, health_in, joined_p
 use Rattle.tko_table.specs.Rule.{states_of}
 use Rattle.tko_table.specs.Steps.{Takes}
 use Rattle.tko_table.proofs.AddedChangeLemmas.{made_by-append, sure-from, told-next}
-use Rattle.tko_table.proofs.TakesLemmas.{number-state_after, takes}
+use Rattle.tko_table.proofs.TakesLemmas.{takes}
 use Rattle.tko_table.proofs.ThreadChangeLemmas.{changes-drawn, made-changes, other-changes}
 use Rattle.tko_table.proofs.ThreadChangeLemmas.{told-other}
 use Rattle.tko_table.proofs.EffectLemmas.{Effect, IsQuiet, IsWritten, effect-of}
@@ -113,7 +114,7 @@ module _ (s : Settings) (words new_words : List ℕ) (views : List (List PassVie
       (stands_in here) (planned here))
 
   named_after : drawn_number pass_after.state ≡ Some call.number
-  named_after = number-state_after call (next_of pass.settings call phase it)
+  named_after = number-after-step call (next_of pass.settings call phase it)
 
   -- the owned servers of each pass, by what the step did
   owned_by : Effect s call servers new_servers pass.owned pass_after.owned changes

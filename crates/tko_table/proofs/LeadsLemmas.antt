@@ -11,7 +11,7 @@ use Rattle.tko_model.specs.Settings.{Settings}
 use Rattle.tko_model.specs.declared.state.ServerState.{ServerState}
 use Rattle.tko_model.specs.Tracker.{after, changed, opened, reply_of, server_at, transition_on}
 use Rattle.tko_steps.specs.Legal.{tracker_in}
-use Rattle.tko_steps.proofs.SoFarLemmas.{IsNotNewer}
+use Rattle.tko_steps.proofs.SoFarLemmas.{IsNotNewer, IsNotNewer-trans}
 use Rattle.tko_table.specs.declared.pass.Change.{Change}
 use Rattle.tko_table.specs.History.{HasChangeOf, Leads, Replays}
 
@@ -45,20 +45,6 @@ leads-halves s first last (change ∷ one) other leads =
 
 -- ---- stamps
 
-not-newer-trans : (one mid other : ServerState) → IsNotNewer one mid → IsNotNewer mid other
-    → IsNotNewer one other
-not-newer-trans one mid other first second =
-    ⊎_elim
-    (λ (same : one ≡ mid). let P : ServerState → Type 0 = λ it. IsNotNewer it other in
-    subst P (sym same) second)
-    (λ (older : one.stamp < mid.stamp).
-    ⊎_elim
-    (λ (same : mid ≡ other). inr
-    (let e : mid.stamp ≡ other.stamp = ap (λ (it : ServerState). it.stamp) same in omega arith))
-    (λ (later : mid.stamp < other.stamp). inr (omega arith))
-    second)
-    first
-
 changed-not-newer : (servers : List ServerState) (server : ℕ) (change : Option Mark) (at : ℕ)
     → IsNotNewer (server_at servers at) (server_at (changed servers server change) at)
 changed-not-newer servers server None at = inl refl
@@ -90,24 +76,10 @@ pub leads-not-newer : (s : Settings) (first last : List ServerState) (history : 
 leads-not-newer s first last [] at leads = inl (ap (λ it. server_at it at) (sym leads))
 leads-not-newer s first last (change ∷ history) at leads =
     let it = transition_on (tracker_in s first) change.number change.op change.server in
-    not-newer-trans (server_at first at) (server_at (next_from s first change) at)
+    IsNotNewer-trans (server_at first at) (server_at (next_from s first change) at)
     (server_at last at)
     (changed-not-newer first change.server it.change at)
     (leads-not-newer s (next_from s first change) last history at leads.1)
-
--- a server that is neither older nor newer is the same
-pub not-newer-same : (one mid other : ServerState) → IsNotNewer one mid → IsNotNewer mid other
-    → one ≡ other → mid ≡ one
-not-newer-same one mid other first second same =
-    ⊎_elim
-    (λ (is : one ≡ mid). sym is)
-    (λ (older : one.stamp < mid.stamp).
-    let ends : one.stamp ≡ other.stamp = ap (λ (it : ServerState). it.stamp) same in
-    ⊎_elim
-    (λ (is : mid ≡ other). is ∙ sym same)
-    (λ (later : mid.stamp < other.stamp). absurd (omega arith))
-    second)
-    first
 
 -- ---- replays
 

@@ -9,6 +9,7 @@ use Rattle.tko_model.specs.Settings.{Settings}
 use Rattle.tko_model.specs.declared.state.ServerState.{ServerState}
 use Rattle.tko_model.specs.Tracker.{server_at}
 use Rattle.tko_word.specs.Words.{IsWord, firm_in, health_word, held_in, server_in, soft_word}
+use Rattle.tko_word.proofs.SoftLemmas.{soft_word_of}
 use Rattle.tko_word.proofs.WordLemmas.{server_in_is}
 use Rattle.tko_steps.specs.declared.phase.Slots.{Slots}
 use Rattle.tko_steps.specs.Core.{slots_at, slots_in}
@@ -188,10 +189,6 @@ word-expected word expected found is_word is_expected holds =
           ∙ sym apart
     ]
 
-pub soft_word-slots : (word : ℕ) → soft_word (firm_in word) (held_in word) ≡ word
-unfolding firm_in held_in
-soft_word-slots word = omega arith
-
 same_slots-from : (one other : Slots) → one.firm ≡ other.firm → one.held ≡ other.held
     → same_slots one other ≡ true
 same_slots-from one other firm held =
@@ -207,8 +204,8 @@ slots-expected word expected slots holds =
           parts.0 ∙ ap (λ (it : Slots). it.firm) (sym holds) in
           let held : held_in word ≡ held_in expected =
           parts.1 ∙ ap (λ (it : Slots). it.held) (sym holds) in
-          eq-eqb word expected (sym (soft_word-slots word) ∙ (λ i. soft_word (firm i) (held i))
-          ∙ soft_word-slots expected) ∙ sym same
+          eq-eqb word expected (sym (soft_word_of word) ∙ (λ i. soft_word (firm i) (held i))
+          ∙ soft_word_of expected) ∙ sym same
       | inr apart ↦
           ne_eqb word expected (λ e.
           let firm : firm_in word ≡ slots.firm =

@@ -5,17 +5,16 @@ use Rattle.tko_model.specs.declared.state.ServerState.{ServerState}
 use Rattle.tko_model.specs.Tracker.{server_at}
 use Rattle.tko_steps.specs.declared.phase.Call.{Call}
 use Rattle.tko_steps.specs.declared.phase.Phase.{Phase}
-use Rattle.tko_steps.specs.declared.table.Decision.{Decision}
-use Rattle.tko_steps.specs.declared.table.Decision.TheVariants.{Goes, Answers}
 use Rattle.tko_steps.specs.declared.table.Observed.{Observed}
 use Rattle.tko_model.specs.declared.mark.Mark.{Mark}
 use Rattle.tko_model.specs.declared.mark.Mark.TheVariants.{Up, Soft, Hard}
-use Rattle.tko_steps.specs.Core.{CoreState, Shared, drawn_number, seen_by, shared_after}
+use Rattle.tko_steps.specs.Core.{CoreState, Shared, seen_by, shared_after}
 use Rattle.tko_steps.specs.Owners.{names}
 use Rattle.tko_steps.specs.Core.{word_at}
 use Rattle.tko_steps.specs.Steps.{owned_after as owned_after_core, place_of}
+use Rattle.tko_steps.proofs.OwnLemmas.{number-after-step}
 use Rattle.tko_steps.proofs.OwnedLemmas.{own-step}
-use Rattle.tko_steps.specs.Steps.{decided_state, is_done}
+use Rattle.tko_steps.specs.Steps.{is_done}
 use Rattle.tko_steps.specs.Table.{action_of, next_of}
 use Rattle.tko_steps.proofs.PhaseStepLemmas.{knows_at}
 use Rattle.tko_table.specs.declared.pass.Change.{Change}
@@ -28,11 +27,6 @@ use Rattle.tko_table.specs.Steps.{Takes}
 use Rattle.tko_table.proofs.JoinedLemmas.{IsOneOf, one-joined}
 use Rattle.tko_table.proofs.PassInCallLemmas.{IsInCall, begins, drawn_between, inside}
 use Rattle.tko_table.proofs.PassInCallLemmas.{others_between, own_before, same_settings, stands_in}
-
-pub number-state_after : (call : Call) (decision : Decision)
-    → drawn_number (decided_state call decision) ≡ Some call.number
-number-state_after call (Goes lost phase) = refl
-number-state_after call (Answers answer) = refl
 
 names-is : (number : ℕ) (mark : Mark) → is_marked_by (Some number) mark ≡ names mark (Some number)
 names-is number (Up count) = refl
@@ -80,7 +74,7 @@ module _ {s : Settings} {words : List ℕ}
       knows_at core_now at.place call kept.core.core (inside here) phase (stands_in here) in
       owned server
       ∙ ap (λ number. is_marked_by number (server_at new_servers server).mark)
-      (number-state_after call (next_of pass.settings call phase it))
+      (number-after-step call (next_of pass.settings call phase it))
       ∙ names-is call.number (server_at new_servers server).mark
       ∙ ap (λ (shared : Shared). names (server_at shared.servers server).mark (Some call.number))
       left

@@ -26,7 +26,7 @@ use Rattle.tko_steps.specs.Steps.{is_done}
 use Rattle.tko_steps.specs.Table.{action_of, from_start, goes, lost_try, next_of, same_server}
 use Rattle.tko_steps.specs.Table.{same_slots}
 use Rattle.tko_steps.proofs.EveryCallLemmas.{softs-le}
-use Rattle.tko_steps.proofs.SoFarLemmas.{IsNotNewer}
+use Rattle.tko_steps.proofs.SoFarLemmas.{IsNotNewer, IsNotNewer-same}
 use Rattle.tko_steps.proofs.StartLemmas.{from_start-is}
 use Rattle.tko_steps.proofs.TableLemmas.{same_server-true}
 use Rattle.tko_table.specs.declared.pass.Change.{Change}
@@ -35,7 +35,7 @@ use Rattle.tko_table.specs.Passes.{changes_by, decided_after}
 use Rattle.tko_table.specs.Rule.{IsPlannedAt}
 use Rattle.tko_table.proofs.ChangeLemmas.{puts-change, stays-no_change}
 use Rattle.tko_table.proofs.AddedChangeLemmas.{IsSure, by_test}
-use Rattle.tko_table.proofs.LeadsLemmas.{not-newer-same, replays-last, replays-not-newer}
+use Rattle.tko_table.proofs.LeadsLemmas.{replays-last, replays-not-newer}
 use Rattle.tko_tracker.specs.History.{IsAnsweredAt}
 use Rattle.tko_model.specs.Groups.{group_of, limit_at}
 use Rattle.tko_steps.proofs.CoreLemmas.{own-group}
@@ -152,7 +152,7 @@ module _ (s : Settings) (begun more seen between : List Change) (same : seen ≡
       let room = has_room s saw.servers call.server in
       let later =
       replays-not-newer s seen between saw.servers servers call.server saw.replays found_by in
-      let pinned : there ≡ found = not-newer-same found there now saw.since_found later is_now in
+      let pinned : there ≡ found = IsNotNewer-same found there now saw.since_found later is_now in
       let no_room : room ≡ false = le-ltb (softs_beside s call.server saw.servers)
       (limit_at s call.server) (omega (arith, saw.limit)) in
       let decides : transition s room call.number call.op there.mark there.stamp ≡ stays Full =

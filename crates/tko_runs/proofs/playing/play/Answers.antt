@@ -3,7 +3,7 @@ use Rattle.tko_runs.specs.States.{IsRunData}
 use Rattle.tko_runs.specs.Orders.{IsLegalRun}
 use Rattle.tko_runs.specs.Runs.{RunData, events_of}
 use Rattle.tko_steps.specs.Runs.{Turn, run}
-use Rattle.tko_runs.proofs.PlayStepLemmas.{within_two}
+use Rattle.tko_model.proofs.RangeLemmas.{within_two}
 use Rattle.tko_runs.proofs.AnswerLemmas.{runs_to_answers}
 use Rattle.tko_runs.proofs.PlayLemmas.{IsLegalRun-named_by, IsRunData-named_by, run_data_of-played, turns-named_by}
 use Rattle.tko_runs.proofs.playing.play.Goals as goal

@@ -1,21 +1,12 @@
-use Rattle.std.proofs.Common.{ap, sym, ◌∙◌, arith}
+use Rattle.std.proofs.Common.{ap, sym, ◌∙◌}
 use Rattle.tko_model.specs.declared.layout.Layout.TheVariants as layout
 use Rattle.tko_model.specs.declared.state.ServerState.{ServerState}
+use Rattle.tko_model.proofs.RangeLemmas.{within_two}
 use Rattle.tko_word.proofs.WordLemmas.{IsMark-in, server_in_is}
 use Rattle.tko_word.proofs.law.one_in_two.Goals as goal
 
 pub returns-clause-settings : goal.returns-clause-settings
-returns-clause-settings c = λ s is. record {
-  servers = is.servers;
-  threads = (is.threads.0, omega (arith, is.threads.1));
-  failures = (is.failures.0, omega (arith, is.failures.1));
-  limits = is.limits;
-  tries = is.tries;
-  stamp = is.stamp;
-  groups = is.groups;
-  grouped = is.grouped;
-  in_groups = is.in_groups;
-}
+returns-clause-settings c = within_two layout.One
 
 pub returns-clause-words : goal.returns-clause-words
 returns-clause-words c = λ s word ranges is. record {
