@@ -17,6 +17,7 @@ use Rattle.tko_keys.specs.KeysState.{request_by, request_of}
 use Rattle.tko_keys.specs.Lines.{IsSentBy}
 use Rattle.tko_keys.specs.declared.step.KeyStep.TheVariants as step
 use Rattle.tko_keys.specs.KeysDriven as driven
+use Rattle.tko_keys.proofs.PlaceLemmas.{get_end}
 use Rattle.tko_client.specs.Keys.{IsDueAfter}
 
 some_pushed : {A : Type 0} (xs : List A) (x : A) → xs ++ x ∷ [] ≢ []
@@ -40,10 +41,6 @@ pub took_due : (config : Configuration) (old new : KeysState) (calls : List Rout
 took_due config old new calls said is =
     subst (λ (k : KeysState). IsDueAfter said k.due) (sym is.state)
     (due_pushed is.place said old.due)
-
-get_end : {X : Type 0} (xs : List X) (x : X) → slice_get (xs ++ x ∷ []) (length xs) ≡ Some x
-get_end [] x = refl
-get_end (y ∷ xs) x = get_end xs x
 
 pub last_pushed : (sends : List KeySend) (send : KeySend)
     → slice_get (sends ++ send ∷ []) (length (sends ++ send ∷ []) - 1) ≡ Some send

@@ -1,12 +1,11 @@
 -- How many keys from the first one on got lists of values.
 use Rattle.std.proofs.Common.{◌≡◌, ◌<◌, ◌≤◌, ◌+◌, ℕ, Bool, true, false, List, length, nat_lt, sym}
-use Rattle.std.proofs.Common.{ap, ◌∙◌, arith, inl, inr}
+use Rattle.std.proofs.Common.{ap, ◌∙◌, arith, inl, inr, true≢false}
 use Rattle.std.specs.Prelude.{slice_index_or}
 use Rattle.std.specs.List.{prefix_len}
 use Rattle.std.proofs.lemmas.Bool.Decides.{eqb_tells}
 use Rattle.std.proofs.lemmas.Bool.{cases_Bool, ltb-false, ltb-true}
 use Rattle.std.proofs.lemmas.List.Sums.{prefix_len-le-length, prefix_len_passes, prefix_len_stops}
-use Rattle.tko_keys.proofs.FirstLemmas.{true_or_false}
 
 module _ {X : Type 0} (p : X → Bool) (xs : List X) where
   -- an element that passes after those before it
@@ -16,7 +15,7 @@ module _ {X : Type 0} (p : X → Bool) (xs : List X) where
     | inl same ↦
         let stops : p (slice_index_or xs (prefix_len p xs) d) ≡ false =
         prefix_len_stops p xs d (omega (arith, same.1, within)) in
-        absurd (true_or_false (sym passes ∙ ap (λ k. p (slice_index_or xs k d)) same.1 ∙ stops))
+        absurd (true≢false (sym passes ∙ ap (λ k. p (slice_index_or xs k d)) same.1 ∙ stops))
     | inr other ↦ omega (arith, so_far, other.1)
   ]
 
@@ -26,7 +25,7 @@ module _ {X : Type 0} (p : X → Bool) (xs : List X) where
   ahead_stops n d so_far fails = elim (eqb_tells n (prefix_len p xs)) [
     | inl same ↦ same.1
     | inr other ↦
-        absurd (true_or_false (sym (prefix_len_passes p xs n d (omega (arith, so_far, other.1)))
+        absurd (true≢false (sym (prefix_len_passes p xs n d (omega (arith, so_far, other.1)))
         ∙ fails))
   ]
 
@@ -36,7 +35,7 @@ module _ {X : Type 0} (p : X → Bool) (xs : List X) where
   ahead_at_least n d within all = elim (cases_Bool (nat_lt (prefix_len p xs) n)) [
     | inl less ↦
         let below : prefix_len p xs < n = ltb-true (prefix_len p xs) n less in
-        absurd (true_or_false (sym (all (prefix_len p xs) below)
+        absurd (true≢false (sym (all (prefix_len p xs) below)
         ∙ prefix_len_stops p xs d (omega (arith, below, within))))
     | inr more ↦ ltb-false (prefix_len p xs) n more
   ]

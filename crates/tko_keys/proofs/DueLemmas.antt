@@ -1,6 +1,6 @@
 -- The keys that are due: the first at a server, and those that go out with it.
 use Rattle.std.proofs.Common.{◌≡◌, ◌==◌, ℕ, Bool, true, false, List, [], ◌∷◌, ◌++◌, map, Option}
-use Rattle.std.proofs.Common.{Some, None, refl, sym, ap, subst, ◌∙◌}
+use Rattle.std.proofs.Common.{Some, None, refl, sym, ap, subst, ◌∙◌, true≢false}
 use Rattle.std.specs.Prelude.{IfSome, IsSome, position, remove, slice_index_or}
 use Rattle.std.specs.Option.{option_map}
 use Rattle.std.proofs.lemmas.Bool.{eq-eqb, eqb-true}
@@ -12,7 +12,7 @@ use Rattle.tko_keys.specs.KeyLines.{others_in}
 use Rattle.tko_keys.specs.KeysDriven.{HasSent}
 use Rattle.tko_keys.specs.KeysState.{DueKey, KeySend, KeySlot, KeysState, LineSoFar, first_due}
 use Rattle.tko_keys.specs.Lines.{IsLineForKeys, IsLineFull, IsSentBy, Picks, key_at}
-use Rattle.tko_keys.proofs.FirstLemmas.{first_taken, passing_found, true_or_false}
+use Rattle.tko_keys.proofs.FirstLemmas.{first_taken, passing_found}
 use Rattle.tko_keys.proofs.PicksLemmas.{cons_or_nil, picks_first, picks_none}
 
 abbrev pub due_there : ℕ → DueKey → Bool
@@ -81,7 +81,7 @@ gathered_none {unique} {slots} {server} {place} {due} none = record {
 pub gathered_short : {unique : Bool} {slots : List KeySlot} {server place : ℕ} {due : List DueKey}
     → HasGathered unique slots server place None true due due
 gathered_short {due = due} =
-    record { picks = picks_none due; for_keys = tt; full = λ whole. absurd (true_or_false whole) }
+    record { picks = picks_none due; for_keys = tt; full = λ whole. absurd (true≢false whole) }
 
 -- a line was filled
 pub gathered_some : {unique : Bool} {slots : List KeySlot} {server place : ℕ}

@@ -1,7 +1,7 @@
 -- The first item of a list that passes a test.
 use Rattle.std.proofs.Common.{◌≡◌, ◌<◌, ◌+◌, ℕ, zero, suc, Bool, true, false, not, List, [], ◌∷◌}
 use Rattle.std.proofs.Common.{◌++◌, cond, length, Option, Some, None, refl, sym, ap, subst, ◌∙◌}
-use Rattle.std.proofs.Common.{arith}
+use Rattle.std.proofs.Common.{arith, true≢false}
 use Rattle.std.specs.Prelude.{IsSome, drop, find, position, remove, slice_get, slice_index_or, take}
 use Rattle.std.specs.List.{position_or_len}
 use Rattle.std.specs.Option.{is_some}
@@ -9,9 +9,6 @@ use Rattle.std.proofs.lemmas.Bool.{lt-ltb, ltb-true}
 use Rattle.std.proofs.lemmas.List.Folds.{find_at}
 use Rattle.std.proofs.lemmas.Option.{cond_some, none-some, same_Some, slice_get-get_or}
 use Rattle.std.proofs.lemmas.Option.{slice_get_read, slice_get_within}
-
-pub true_or_false : true ≡ false → ⊥
-true_or_false e = cc
 
 pub split_at : {X : Type 0} (xs : List X) (i : ℕ) (x : X) → slice_get xs i ≡ Some x
     → xs ≡ take i xs ++ x ∷ drop (suc i) xs
@@ -121,7 +118,7 @@ module _ {X : Type 0} (test : X → Bool) where
   passing_found [] i x at meets = absurd (none-some x at)
   passing_found (y ∷ xs) zero x at meets =
       passes_by y xs (test y) refl
-      (λ apart. absurd (true_or_false (sym meets ∙ ap test (sym (same_Some y x at)) ∙ apart)))
+      (λ apart. absurd (true≢false (sym meets ∙ ap test (sym (same_Some y x at)) ∙ apart)))
   passing_found (y ∷ xs) (suc i) x at meets =
       passes_by y xs (test y) refl (λ apart. passing_found xs i x at meets)
 

@@ -1,7 +1,7 @@
 -- What the keys of a request come to, over all calls of them.
 use Rattle.std.proofs.Common.{◌≡◌, ◌<◌, ℕ, zero, suc, Bool, true, false, List, [], ◌∷◌, ◌++◌}
 use Rattle.std.proofs.Common.{length, length-append, Option, Some, None, refl, sym, ap, subst, ◌∙◌}
-use Rattle.std.proofs.Common.{append-nil, arith}
+use Rattle.std.proofs.Common.{append-nil, arith, true≢false}
 use Rattle.std.specs.Prelude.{slice_get}
 use Rattle.std.proofs.lemmas.List.Elements.{All-nil}
 use Rattle.std.proofs.lemmas.List.Sums.{prefix_len_passes}
@@ -30,7 +30,6 @@ use Rattle.tko_keys.specs.KeysState.{values_ahead}
 use Rattle.tko_keys.proofs.OutLemmas.{count_at}
 use Rattle.tko_keys.proofs.ReplyLemmas.{HasEnded, ReplyAt, all_listed, are_ended, one_other}
 use Rattle.tko_keys.proofs.ReplyLemmas.{reply_of}
-use Rattle.tko_keys.proofs.FirstLemmas.{true_or_false}
 pub use Rattle.tko_keys.proofs.ActLemmas.{keys_on}
 
 no_own : (place : ℕ) → own_of place [] ≡ []
@@ -146,7 +145,7 @@ never_failed {config} {state} ready all true is =
     let passes : has_values it.slot ≡ true =
     ap has_values (sym (get_or_from_slice_get state.slots it.place it.slot it.slot it.at))
     ∙ prefix_len_passes has_values state.slots it.place it.slot (omega (arith, within, all)) in
-    absurd (true_or_false (sym passes ∙ failed_none it.slot.waiting it.slot.key.share it.is))
+    absurd (true≢false (sym passes ∙ failed_none it.slot.waiting it.slot.key.share it.is))
 
 cons_or_nil : {X : Type 0} (x : X) (xs : List X) → x ∷ xs ≡ [] → ⊥
 cons_or_nil x xs e = cc

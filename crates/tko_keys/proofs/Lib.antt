@@ -15,7 +15,7 @@ mod LineLemmas
 mod OthersLemmas
 mod OutLemmas
 mod PicksLemmas
-mod PlaceLemmas
+pub mod PlaceLemmas
 mod PlacedLemmas
 mod ReadingLemmas
 mod ReadyLemmas

@@ -1,7 +1,7 @@
 -- Lines for keys that are due at a server.
 use Rattle.std.proofs.Common.{◌≡◌, ◌≢◌, ◌<◌, ◌≤◌, ◌+◌, ◌-◌, ◌^◌, ℕ, Bool, true, false, List, []}
 use Rattle.std.proofs.Common.{◌∷◌, ◌++◌, length, map, min, suc, drop, take, Option, refl, sym, ap}
-use Rattle.std.proofs.Common.{subst, ◌∙◌, append_assoc, append-nil, arith, inl, inr}
+use Rattle.std.proofs.Common.{subst, ◌∙◌, append_assoc, append-nil, arith, inl, inr, true≢false}
 use Rattle.std.specs.Prelude.{◌||◌, slice_index_or, unwrap_or}
 use Rattle.std.specs.Option.{option_map}
 use Rattle.std.proofs.Math.Seq.{drop-cons, take-suc}
@@ -20,11 +20,10 @@ use Rattle.tko_keys.specs.KeysState.{DueKey, KeySlot, LineSoFar}
 use Rattle.tko_keys.specs.Lines.{AreDistinctKeys, HasNoRoom, IsLineFull, key_at, key_of}
 use Rattle.tko_keys.specs.Lines.{line_length}
 use Rattle.tko_keys.specs.Lines.Picks.{none_due}
-use Rattle.tko_keys.proofs.FirstLemmas.{true_or_false}
 use Rattle.tko_keys.proofs.PicksLemmas.{picks_goes, picks_stays}
 
 neither : (a b : Bool) → (a || b) ≡ false → (a ≡ false) × (b ≡ false)
-neither true b none = absurd (true_or_false none)
+neither true b none = absurd (true≢false none)
 neither false b none = (refl, none)
 
 -- one more key is apart from the others
@@ -34,7 +33,7 @@ apart_more [] key apart new = (All-nil (λ other. other ≢ key), tt)
 apart_more (first ∷ keys) key apart new =
     let parts = neither (bytes_eq first key) (is_among keys key) new in
     let differs : key ≢ first =
-    λ same. true_or_false (sym ((bytes_eq-Decides first key).1 (sym same)) ∙ parts.0) in (
+    λ same. true≢false (sym ((bytes_eq-Decides first key).1 (sym same)) ∙ parts.0) in (
       All-append (λ other. other ≢ first) keys (key ∷ []) apart.0
           (All-cons (λ other. other ≢ first) key [] differs (All-nil (λ other. other ≢ first))),
       apart_more keys key apart.1 parts.1,
@@ -141,7 +140,7 @@ module _ {unique : Bool} {slots : List KeySlot} {server : ℕ} where
     others = ap (λ (line : LineSoFar). line.others) same ∙ filled.others;
     line = subst (λ (line : LineSoFar). IsKeyLineFor unique
         (keys ++ map (key_at slots) filled.places) line) (sym same) filled.line;
-    full = λ whole. absurd (true_or_false whole);
+    full = λ whole. absurd (true≢false whole);
   }
 
 -- the first of the keys that are due was taken off

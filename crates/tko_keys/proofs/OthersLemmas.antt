@@ -1,7 +1,7 @@
 -- What is said of a key stays where only another one came further.
 use Rattle.std.proofs.Common.{◌≡◌, ◌≢◌, ◌≤◌, ◌==◌, ℕ, Bool, true, false, List, [], ◌∷◌, cond}
 use Rattle.std.proofs.Common.{length, map, Option, Some, None, refl, sym, ap, subst, ◌∙◌, arith}
-use Rattle.std.proofs.Common.{inl, inr}
+use Rattle.std.proofs.Common.{inl, inr, true≢false}
 use Rattle.std.specs.Prelude.{◌⊎◌, ◌||◌, All, slice_get, unwrap_or}
 use Rattle.std.specs.List.{list_any}
 use Rattle.std.specs.Option.{option_map}
@@ -18,7 +18,6 @@ use Rattle.tko_keys.specs.KeysState.{KeySlot, KeysCame}
 use Rattle.tko_keys.specs.Lines.{key_at, key_of, part_for_key}
 use Rattle.tko_keys.specs.SlotCalls.{IsLeftForOthers}
 use Rattle.tko_keys.proofs.StageLemmas.{slot_lost}
-use Rattle.tko_keys.proofs.FirstLemmas.{true_or_false}
 use Rattle.tko_keys.proofs.OutLemmas.{count_at, count_cons}
 
 -- memory ran out meanwhile, or did not
@@ -103,7 +102,7 @@ apart_from : (first : List ℕ) (slots : List KeySlot) (at : ℕ) (slot : KeySlo
     → slice_get slots at ≡ Some slot → (places : List ℕ)
     → All (λ (other : List ℕ). other ≢ first) (map (key_at slots) places)
     → list_any (λ (other : ℕ). other == at) places ≡ true → key_of slot ≢ first
-apart_from first slots at slot is [] all some = absurd (true_or_false (sym some))
+apart_from first slots at slot is [] all some = absurd (true≢false (sym some))
 apart_from first slots at slot is (place ∷ places) all some = elim (eqb_tells place at) [
   | inl eq ↦
       let key : key_at slots place ≡ key_of slot =
@@ -121,7 +120,7 @@ apart_from first slots at slot is (place ∷ places) all some = elim (eqb_tells 
 
 none_short : (at : ℕ) (places : List ℕ) → length places ≤ 0
     → list_any (λ (other : ℕ). other == at) places ≡ true → ⊥
-none_short at [] short some = true_or_false (sym some)
+none_short at [] short some = true≢false (sym some)
 none_short at (place ∷ places) short some = omega (arith, short)
 
 part_left : (shared : Bool) (slots : List KeySlot) (place : ℕ) (places : List ℕ)

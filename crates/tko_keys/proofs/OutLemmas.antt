@@ -2,6 +2,7 @@
 -- have.
 use Rattle.std.proofs.Common.{◌≡◌, ◌≢◌, ◌≤◌, ◌+◌, ◌==◌, ℕ, Bool, true, false, List, [], ◌∷◌, ◌++◌}
 use Rattle.std.proofs.Common.{cond, length, length-append, map, refl, sym, ap, ◌∙◌, arith, inl, inr}
+use Rattle.std.proofs.Common.{true≢false}
 use Rattle.std.specs.Prelude.{All, count_by, flat_map, slice_index_or}
 use Rattle.std.proofs.lemmas.Bool.Decides.{eqb_tells}
 use Rattle.std.proofs.lemmas.List.{length-map}
@@ -10,7 +11,6 @@ use Rattle.std.proofs.lemmas.List.Sums.{get_or-le-sum_by, sum_by-append, sum_by-
 use Rattle.std.proofs.lemmas.Option.{slice_get_past}
 use Rattle.tko_keys.specs.KeysDriven.{outs_at, outs_in}
 use Rattle.tko_keys.specs.KeysState.{DueKey, KeySend, KeySlot, KeysCame, key_places_in}
-use Rattle.tko_keys.proofs.FirstLemmas.{true_or_false}
 
 -- what holds of all parts of a list
 pub all_split : {X : Type 0} (P : X → Type 0) (xs ys : List X) → All P (xs ++ ys)
@@ -38,7 +38,7 @@ no_more false few = refl
 
 pub ne_from : (x y : ℕ) → (x == y) ≡ false → x ≢ y
 ne_from x y is = elim (eqb_tells x y) [
-  | inl eq ↦ absurd (true_or_false (sym eq.0 ∙ is))
+  | inl eq ↦ absurd (true≢false (sym eq.0 ∙ is))
   | inr ne ↦ ne.1
 ]
 

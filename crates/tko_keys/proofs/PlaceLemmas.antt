@@ -1,6 +1,7 @@
 -- The keys that were begun where one more is, or where one of them came further: the others stay.
 use Rattle.std.proofs.Common.{◌≡◌, ◌≢◌, ◌<◌, ◌≤◌, ℕ, zero, suc, Bool, true, false, List, [], ◌∷◌}
 use Rattle.std.proofs.Common.{◌++◌, length, length-append, Some, refl, sym, ap, ◌∙◌, arith}
+use Rattle.std.proofs.Common.{true≢false}
 use Rattle.std.specs.Prelude.{slice_get, slice_index_or, slice_set}
 use Rattle.std.specs.List.{prefix_len}
 use Rattle.std.proofs.lemmas.List.{length-set}
@@ -9,7 +10,6 @@ use Rattle.std.proofs.lemmas.Option.{get_or_from_slice_get, none-some, slice_get
 use Rattle.std.proofs.lemmas.Option.{slice_get_within}
 use Rattle.tko_roster.proofs.SlotLemmas.{get_set_other, get_set_same}
 use Rattle.tko_keys.proofs.AheadLemmas.{ahead_at_least}
-use Rattle.tko_keys.proofs.FirstLemmas.{true_or_false}
 
 pub get_front : {X : Type 0} (xs ys : List X) (i : ℕ) (x : X) → slice_get xs i ≡ Some x
     → slice_get (xs ++ ys) i ≡ Some x
@@ -65,7 +65,7 @@ module _ {X : Type 0} (p : X → Bool) where
       (λ k below.
       let passes : p (slice_index_or xs k now) ≡ true = prefix_len_passes p xs k now below in
       let within : k < length xs = omega (arith, below, prefix_len-le-length p xs) in
-      let apart : k ≢ place = λ e. true_or_false
+      let apart : k ≢ place = λ e. true≢false
       (sym passes ∙ ap (λ n. p (slice_index_or xs n now)) e
       ∙ ap p (get_or_from_slice_get xs place was now at) ∙ fails) in
       let same = get_set_other xs place k now apart ∙ slice_get-get_or xs k now within in

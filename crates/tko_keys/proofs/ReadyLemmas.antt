@@ -1,7 +1,7 @@
 -- What each call leaves for the next one.
 use Rattle.std.proofs.Common.{◌≡◌, ◌≢◌, ◌<◌, ◌≤◌, ◌+◌, ◌==◌, ℕ, zero, Bool, true, false, List, []}
 use Rattle.std.proofs.Common.{◌++◌, cond, length, length-append, Some, None, refl, sym, ap, subst}
-use Rattle.std.proofs.Common.{◌∙◌, arith, inl, inr}
+use Rattle.std.proofs.Common.{◌∙◌, arith, inl, inr, true≢false}
 use Rattle.std.specs.Prelude.{◌⊎◌, All, slice_get, slice_index_or}
 use Rattle.std.proofs.lemmas.Bool.Decides.{eqb_tells}
 use Rattle.std.proofs.lemmas.List.{map-append}
@@ -16,7 +16,6 @@ use Rattle.tko_keys.specs.KeysState.{places_out, values_ahead}
 use Rattle.tko_keys.specs.SlotCalls.{IsSlotOut}
 use Rattle.tko_keys.specs.declared.step.KeyStep.TheVariants as step
 use Rattle.tko_keys.proofs.PlaceLemmas.{IsChanged}
-use Rattle.tko_keys.proofs.FirstLemmas.{true_or_false}
 use Rattle.tko_keys.proofs.OutLemmas.{count_append, count_at, count_cons, count_in, due_apart}
 use Rattle.tko_keys.proofs.OutLemmas.{due_places, length_in, send_apart, send_places}
 use Rattle.tko_keys.proofs.StayLemmas.{came_stays, due_stays, sent_stays}
@@ -160,7 +159,7 @@ module _ {config : Configuration} {old new : KeysState} {place : ℕ} {after : K
     | inl before ↦
         let it = ready.failed before in
         let apart : it.place ≢ place =
-        λ e. true_or_false (sym it.is
+        λ e. true≢false (sym it.is
         ∙ on.free it.slot (ap (slice_get old.slots) (sym e) ∙ it.at)) in
         record {
           place = it.place;

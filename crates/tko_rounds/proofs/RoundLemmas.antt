@@ -1,30 +1,20 @@
 -- Laws of rounds: visits one after another, and what they add to the counts.
-use Rattle.std.proofs.Common.{◌≡◌, ℕ, zero, suc, ◌+◌, ◌≤◌, Bool, true, false, ◌||◌, List, [], ◌∷◌, ◌++◌, Option, Some, None, length, cond, inl, refl, sym, ap, subst, ◌∙◌, add-one, zero-add, arith}
-use Rattle.std.proofs.lemmas.List.{map-append, map-id}
+use Rattle.std.proofs.Common.{◌≡◌, ℕ, zero, suc, ◌+◌, ◌≤◌, Bool, false, ◌||◌, List, [], ◌∷◌, ◌++◌, Option, Some, None, length, cond, inl, refl, sym, ap, subst, ◌∙◌, add-one, arith}
+use Rattle.std.proofs.lemmas.List.{map-append}
 use Rattle.std.proofs.lemmas.List.Folds.{list_any-append}
-use Rattle.std.proofs.lemmas.List.FromFn.{map-range_with_len_more}
 use Rattle.std.proofs.lemmas.List.Sums.{sum_by-cons}
 use Rattle.tko_model.specs.Records.{Lead}
 use Rattle.tko_model.proofs.RecordLemmas.{gains_none, gains_push}
 use Rattle.tko_health.specs.declared.health.Health.{Ghosts as HealthGhosts}
 use Rattle.tko_mux.specs.Lines.{LineState}
-use Rattle.tko_pools.specs.Configs.{numbers_below}
 use Rattle.tko_prober.specs.declared.backend.Backend.{Backend}
 use Rattle.tko_prober.specs.declared.probers.ProbeSlot.{ProbeSlot}
 use Rattle.tko_prober.specs.Probers.{ProbersState, begun_at}
 use Rattle.tko_prober.proofs.ProberLemmas.{begun-quiet, prober-quiet}
+use Rattle.tko_prober.proofs.RoundLemmas.{numbers_below-more, or-false}
 use Rattle.tko_rounds.specs.Probes.{count_of}
 use Rattle.tko_rounds.specs.Rounds.{AreEventVisited, HasNext, HasProbeTaken, HasNoProbes, IsProbeNext, IsEventRound, IsEventVisit, IsEventVisited, Lost, ProbeNext, NothingCame, Passed, Pushed, RoundState, ProbeTaking, TakesProbe, Underway, EventVisit, awaited, begun_round, probes_ended_in, event_ran_out, round_servers, took, unsent, event_visited}
 use Rattle.tko_rounds.proofs.ProbeLemmas.{each_unset}
-
-numbers_below-more : (count : ℕ) → numbers_below (count + 1) ≡ numbers_below count ++ count ∷ []
-numbers_below-more count =
-    sym (map-id (numbers_below (count + 1))) ∙ map-range_with_len_more (λ (n : ℕ). n) 0 count count (zero-add count)
-    ∙ ap (λ xs. xs ++ count ∷ []) (map-id (numbers_below count))
-
-or-false : (b : Bool) → (b || false) ≡ b
-or-false true = refl
-or-false false = refl
 
 module _ {H L C : Type 0} {health : HealthGhosts H} where
   -- what came of the probe of a server was taken, and then the next one was sent

@@ -1,6 +1,6 @@
 -- An item that was read, a request that begins, and a key that goes on.
 use Rattle.std.proofs.Common.{◌≡◌, ℕ, Bool, false, true, List, [], ◌++◌, length, sym, ap, subst}
-use Rattle.std.proofs.Common.{◌∙◌}
+use Rattle.std.proofs.Common.{◌∙◌, true≢false}
 use Rattle.tko_text.specs.Reading.{Emits}
 use Rattle.tko_text.specs.Requests.{fault_text}
 use Rattle.tko_text.specs.declared.fault.TextFault.{TextFault}
@@ -18,22 +18,19 @@ use Rattle.tko_session.specs.SessionState.{SessionState, progress_after}
 use Rattle.tko_session.specs.declared.step.Step.{Step}
 use Rattle.tko_session.specs.declared.step.Step.TheVariants as step
 
-pub true_or_false : true ≡ false → ⊥
-true_or_false e = cc
-
 -- a request that begins with a key
 pub begins_first : {config : Configuration} {request : Request} {outbox outbox' : List ℕ}
     {calls : List RoutedCall} {one : OneKey} {keyed : Bool} → keyed ≡ true
     → BeginsAnswer config request outbox calls keyed one outbox'
     → IsFirst request (length outbox) one × (outbox' ≡ outbox) × (calls ≡ [])
-begins_first on (asked.itself text looks over is are same) = absurd (true_or_false (sym on ∙ over))
+begins_first on (asked.itself text looks over is are same) = absurd (true≢false (sym on ∙ over))
 begins_first on (asked.by_key on' first none same) = (first, same, none)
 
 -- a key that goes on to the next
 pub next_outbox : {one other : OneKey} {outbox outbox' : List ℕ}
     → ContinuesKeys one outbox true other outbox' → outbox' ≡ outbox
-next_outbox (asked.complete silent kind over same) = absurd (true_or_false over)
-next_outbox (asked.last begin kind over same) = absurd (true_or_false over)
+next_outbox (asked.complete silent kind over same) = absurd (true≢false over)
+next_outbox (asked.last begin kind over same) = absurd (true≢false over)
 next_outbox (asked.next begin key left kind on alike then same) = same
 
 -- whose reply is complete
@@ -41,7 +38,7 @@ pub over_same : {one other : OneKey} {outbox outbox' : List ℕ}
     → ContinuesKeys one outbox false other outbox' → ContinuesKeys one outbox false one outbox'
 over_same (asked.complete silent kind over same) = asked.complete silent kind over same
 over_same (asked.last begin kind over same) = asked.last begin kind over same
-over_same (asked.next begin key left kind on alike then same) = absurd (true_or_false (sym on))
+over_same (asked.next begin key left kind on alike then same) = absurd (true≢false (sym on))
 
 -- a fault was read and answered
 pub fault_read : {old read new : SessionState} {said : Step} (fault : TextFault)

@@ -1,7 +1,7 @@
 -- Laws of events: these and then those, and what a round leaves.
 use Rattle.std.proofs.Common.{◌≡◌, ℕ, ◌+◌, ◌≤◌, Bool, true, false, List, [], ◌∷◌, ◌++◌, Option}
 use Rattle.std.proofs.Common.{Some, None, append_assoc, append-nil, arith, refl, sym, ap, subst}
-use Rattle.std.proofs.Common.{◌∙◌, cond, inl, inr, length}
+use Rattle.std.proofs.Common.{◌∙◌, cond, inl, inr, length, true≢false}
 use Rattle.std.proofs.lemmas.Bool.{cases_Bool}
 use Rattle.std.proofs.lemmas.Grind.{flat_map-append}
 use Rattle.std.specs.List.{list_any}
@@ -110,9 +110,6 @@ pub order-append : (first mid last : Bool) (events more : List SessionEvent)
 order-append first mid last events more front back =
     owed-append (Some first) events more ∙ ap (λ owed. owed_from owed more) front ∙ back
 
-true_or_false : true ≡ false → ⊥
-true_or_false same = cc
-
 none_or_some : {prober : Prober} → None ≡ Some prober → ⊥
 none_or_some same = cc
 
@@ -174,11 +171,11 @@ module _ {H L T C : Type 0} {ghosts : BackendGhosts H L C} where
       elim (cases_Bool mid.state.owes) [
         | inl owed ↦
             let rounded : Rounded ghosts true mid.parts new = subst P owed run.ran in
-            true_or_false (rounded.round.memory
+            true≢false (rounded.round.memory
             ∙ calm_visits rounded.round.visits (quiet_round rounded.round quiet))
         | inr none ↦
             let unpaid : NoneRun true mid.parts new = subst P none run.ran in
-            true_or_false unpaid.never_short
+            true≢false unpaid.never_short
       ]
 
 -- what a visit of a round leaves alone, the round does

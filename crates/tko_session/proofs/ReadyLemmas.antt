@@ -1,6 +1,6 @@
 -- What each call of a session leaves for the next one, and how a call goes on from what it is at.
 use Rattle.std.proofs.Common.{◌≡◌, ℕ, Bool, false, true, List, [], ◌++◌, length, take, refl, sym}
-use Rattle.std.proofs.Common.{ap, subst, ◌∙◌, append-nil}
+use Rattle.std.proofs.Common.{ap, subst, ◌∙◌, append-nil, true≢false}
 use Rattle.tko_model.specs.Records.{HealthItem}
 use Rattle.tko_model.proofs.RecordLemmas.{gains_none}
 use Rattle.tko_text.specs.SentRequests.{without_noreply}
@@ -29,7 +29,7 @@ use Rattle.tko_session.specs.declared.step.Step.TheVariants as step
 use Rattle.tko_session.specs.Working.{Work}
 use Rattle.tko_session.specs.Working as work
 use Rattle.tko_session.proofs.KeyCutLemmas.{taken}
-use Rattle.tko_session.proofs.BegunLemmas.{begins_first, next_outbox, over_same, true_or_false}
+use Rattle.tko_session.proofs.BegunLemmas.{begins_first, next_outbox, over_same}
 
 ready_at : (config : Configuration) (state : SessionState) (at : Stage) (one : OneKey)
     → BeginsAt state.begin one.share state.outbox
@@ -133,7 +133,7 @@ module _ (config : Configuration) where
       → mid ≡ record old { outbox = outbox; work = at } → said ≡ step.At (progress_of one.request)
       → new ≡ finished mid → WentOn config old calls said new
   request_itself is over (asked.by_key on first none same) moved says end =
-      absurd (true_or_false (sym on ∙ over))
+      absurd (true≢false (sym on ∙ over))
   request_itself {one} {at = at} {old = old} {new = new} {calls = calls} {said = said} is over
       (asked.itself text looks over' itself are same) moved says end =
       subst (λ w. WentOnFrom config w old calls said new) (sym is)

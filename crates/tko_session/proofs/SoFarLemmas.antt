@@ -11,6 +11,7 @@ use Rattle.tko_reply.specs.Interactions.{Interaction}
 use Rattle.tko_reply.specs.Replies.{HasValues, RoutedKey, joined_values, keys_in}
 use Rattle.tko_reply.specs.Standing.{SentKey}
 use Rattle.tko_reply.specs.declared.asking.OneKey.{OneKey}
+use Rattle.tko_reply.proofs.AnsweringLemmas.{retrieval_keys}
 use Rattle.tko_reply.proofs.StandsLemmas.{IsAt, IsPast, IsSending, JoinsOn, values_joined}
 use Rattle.tko_reply.proofs.StandsLemmas as stands
 use Rattle.tko_session.specs.SoFar.{AsksForKey, HasJoined, IsKeyPast, IsOneKeyOf, IsSentFor}
@@ -19,11 +20,6 @@ use Rattle.tko_session.specs.SoFar as so_far
 
 abbrev pub pending : Request → List ℕ → List Interaction → PendingRequest
 pending request front done = record { request = request; front = front; done = done }
-
-retrieval_keys : (keys : List (List ℕ)) (unique : Bool)
-    → request_keys (retrieval keys unique) ≡ keys
-retrieval_keys keys true = refl
-retrieval_keys keys false = refl
 
 nothing_before : (before : List (List ℕ)) (key : List ℕ) (left : List (List ℕ))
     → [] ≡ before ++ key ∷ left → ⊥

@@ -1,14 +1,13 @@
-use Rattle.std.proofs.Common.{◌≡◌, sym, ap, ◌∙◌}
+use Rattle.std.proofs.Common.{◌≡◌, sym, ap, ◌∙◌, true≢false}
 use Rattle.tko_keys.specs.Lines.{key_at, key_in_request}
 use Rattle.tko_keys.specs.KeysState.{KeySlot}
 use Rattle.tko_keys.proofs.DueLemmas.{gathered_none, gathered_short, gathered_some}
 use Rattle.tko_keys.proofs.LineLemmas.{key_read}
-use Rattle.tko_keys.proofs.FirstLemmas.{true_or_false}
 use Rattle.tko_keys.proofs.keys_at_once.sending.gather.Goals as goal
 
 pub returns-then-not-is_due-clause-gathered : goal.returns-then-not-is_due-clause-gathered
 returns-then-not-is_due-clause-gathered c =
-    gathered_none (λ some. true_or_false (sym (c.is_due.ensures.1 some) ∙ c.if-not-is_due.true))
+    gathered_none (λ some. true≢false (sym (c.is_due.ensures.1 some) ∙ c.if-not-is_due.true))
 
 pub returns-in-Ok-clause-gathered : goal.returns-in-Ok-clause-gathered
 returns-in-Ok-clause-gathered c =
