@@ -11,8 +11,8 @@ pub record PortState : Type 0 where
   pub written : List ℕ
 
 -- nothing was read or written yet, and both may find something to do
-abbrev pub new_port : PortState
-new_port = record { readable = true; writable = true; read = []; written = [] }
+abbrev pub ready_port : PortState
+ready_port = record { readable = true; writable = true; read = []; written = [] }
 
 -- an event said that it is readable
 abbrev pub now_readable : PortState → PortState

@@ -1,6 +1,6 @@
 //! A port in memory, for tests.
 ghost use Rattle.std.specs.Prelude.{◌≡◌};
-ghost use Rattle.tko_port.specs.Ports.{new_port};
+ghost use Rattle.tko_port.specs.Ports.{ready_port};
 
 use crate::{Port, Read};
 use std::alloc::Global;
@@ -23,7 +23,7 @@ pub struct MemoryPort {
 impl MemoryPort {
     /// The other side sends this, and takes at most so many bytes in each write.
     pub fn new(alloc: Global, input: Vec<u8>, room: usize) -> MemoryPort
-        ensures { ⟦<MemoryPort as Port>⟧.port result ≡ new_port }
+        ensures { ⟦<MemoryPort as Port>⟧.port result ≡ ready_port }
     {
         MemoryPort {
             input,

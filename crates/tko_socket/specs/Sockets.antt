@@ -1,5 +1,5 @@
 -- A socket, as a port of a worker.
-use Rattle.std.specs.Prelude.{true, false, []}
+use Rattle.std.specs.Prelude.{false, []}
 use Rattle.tko_port.specs.Ports.{PortState}
 use Rattle.tko_socket.specs.declared.socket.Socket.{Socket}
 
@@ -14,7 +14,3 @@ port_of it = record {
 -- nothing was read or written yet, and no event came
 abbrev pub unready : PortState
 unready = record { readable = false; writable = false; read = []; written = [] }
-
--- nothing was read or written yet, and both may be tried
-abbrev pub ready_port : PortState
-ready_port = record { readable = true; writable = true; read = []; written = [] }

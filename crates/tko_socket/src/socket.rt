@@ -1,6 +1,7 @@
 //! A connection that does not wait.
 ghost use Rattle.std.specs.Prelude.{◌≡◌, IfOk};
-ghost use Rattle.tko_socket.specs.Sockets.{port_of, unready, ready_port};
+ghost use Rattle.tko_port.specs.Ports.{ready_port};
+ghost use Rattle.tko_socket.specs.Sockets.{port_of, unready};
 ghost use Rattle.tko_socket.specs.Failures.{failed_read, failed_write};
 
 use crate::{Trace, calls};
