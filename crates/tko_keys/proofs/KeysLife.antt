@@ -24,8 +24,8 @@ use Rattle.tko_keys.specs.KeysActs as act
 use Rattle.tko_keys.specs.KeysDriven.{AreUnderWay, outs_at, outs_by, outs_in}
 use Rattle.tko_keys.specs.KeysDriven as driven
 use Rattle.tko_keys.specs.KeysSoFar.{IsSlotAt, KeysSoFar, is_to_take}
-use Rattle.tko_keys.specs.KeysState.{IsComplete, IsNew, KeySlot, KeysState, failed_by, has_values}
-use Rattle.tko_keys.specs.KeysState.{listed_by, nothing_came, places_out, reply_at, reply_in}
+use Rattle.tko_keys.specs.KeysState.{IsComplete, IsNew, KeySlot, KeysState, failed_by, fresh_keys}
+use Rattle.tko_keys.specs.KeysState.{has_values, listed_by, places_out, reply_at, reply_in}
 use Rattle.tko_keys.specs.KeysState.{values_ahead}
 use Rattle.tko_keys.proofs.OutLemmas.{count_at}
 use Rattle.tko_keys.proofs.ReplyLemmas.{HasEnded, ReplyAt, all_listed, are_ended, one_other}
@@ -38,17 +38,7 @@ no_own place = refl
 
 fresh_ready : (config : Configuration) (plan : KeyPlan) (keys : List (List ℕ)) (unique : Bool)
     → 0 < plan.most
-    → AreUnderWay config (record {
-      unique = unique;
-      left = keys;
-      slots = [];
-      due = [];
-      sends = [];
-      came = nothing_came;
-      plan = plan;
-      failed = false;
-      lost = false;
-    })
+    → AreUnderWay config (fresh_keys plan keys unique)
 fresh_ready config plan keys unique some = record {
   due = All-nil (driven.IsDueAt config []);
   sent = All-nil (driven.IsSentAt config plan.grouping unique []);

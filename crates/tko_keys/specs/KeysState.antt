@@ -72,22 +72,26 @@ pub record KeysState : Type 0 where
 abbrev pub nothing_came : KeysCame
 nothing_came = record { places = []; shared = false; outcome = None; reply = None }
 
+-- these keys, none of which was begun
+abbrev pub fresh_keys : KeyPlan → List (List ℕ) → Bool → KeysState
+fresh_keys plan keys unique = record {
+  unique = unique;
+  left = keys;
+  slots = [];
+  due = [];
+  sends = [];
+  came = nothing_came;
+  plan = plan;
+  failed = false;
+  lost = false;
+}
+
 -- the keys of a request, none of which was begun
 pub record IsNew (request : Request) (plan : KeyPlan) (state : KeysState) : Type 0 where
   pub keys : List (List ℕ)
   pub unique : Bool
   pub whole : request ≡ retrieval keys unique
-  pub is : state ≡ record {
-    unique = unique;
-    left = keys;
-    slots = [];
-    due = [];
-    sends = [];
-    came = nothing_came;
-    plan = plan;
-    failed = false;
-    lost = false;
-  }
+  pub is : state ≡ fresh_keys plan keys unique
 
 -- the attempts at a key have ended, and its response is a list of values
 abbrev pub listed_by : Option Awaited → ReplyPart → Bool

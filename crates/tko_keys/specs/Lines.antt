@@ -2,6 +2,7 @@
 use Rattle.std.specs.Prelude.{◌≡◌, ◌≢◌, ◌<◌, ◌≤◌, ◌+◌, ◌⊎◌, ℕ, Bool, true, false, List, [], ◌∷◌}
 use Rattle.std.specs.Prelude.{All, Option, Some, None, length, map, slice_get, sum_by, unwrap_or}
 use Rattle.std.specs.Option.{option_map}
+use Rattle.tko_text.specs.Limits.{line_limit}
 use Rattle.tko_text.specs.Responses.{is_among, part_for}
 use Rattle.tko_text.specs.declared.request.Request.{Request}
 use Rattle.tko_links.specs.declared.links.Outcome.{Outcome}
@@ -54,10 +55,6 @@ pub data Picks (server : ℕ) : List DueKey → List ℕ → List DueKey → Typ
       (rest others : List DueKey) → due ≡ it ∷ rest → stay ≡ it ∷ others
       → Picks server rest places others → Picks server due places stay
 
--- the most bytes that a request line may have
-abbrev pub line_bound : ℕ
-line_bound = 65536
-
 -- the bytes of such a line without its keys: `gets` and CR LF
 abbrev pub line_frame : ℕ
 line_frame = 6
@@ -75,7 +72,7 @@ AreDistinctKeys (key ∷ keys) = All (λ other. other ≢ key) keys × AreDistin
 pub record IsLineForKeys (unique : Bool) (keys : List (List ℕ)) (line : Request) : Type 0 where
   pub is : line ≡ retrieval keys unique
   pub apart : AreDistinctKeys keys
-  pub fits : line_length keys ≤ line_bound
+  pub fits : line_length keys ≤ line_limit
 
 -- a line is for keys of these places, where keys go out together; without one there is one key
 abbrev pub IsSentBy : Grouping → Bool → List KeySlot → List ℕ → Option Request → Type 0
@@ -86,7 +83,7 @@ IsSentBy grouping unique slots places (Some line) =
 -- a key has no room in a line for these keys: it is one of them, or the line would be too long
 abbrev pub HasNoRoom : List (List ℕ) → List ℕ → Type 0
 HasNoRoom keys key =
-    (is_among keys key ≡ true) ⊎ (line_bound < line_length keys + (1 + length key))
+    (is_among keys key ≡ true) ⊎ (line_limit < line_length keys + (1 + length key))
 
 -- the keys that stay due at a server while a line for these keys goes to it have no room in it
 abbrev pub IsLineFull : List KeySlot → ℕ → List (List ℕ) → List DueKey → Type 0

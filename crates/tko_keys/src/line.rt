@@ -8,10 +8,7 @@ ghost use Rattle.tko_keys.specs.Lines.{key_in_request};
 use crate::under_way::KeyLine;
 use std::alloc::Global;
 use tko_bytes::NoMemory;
-use tko_text::{Key, Keys, Request};
-
-/// The most bytes that a request line may have.
-const LINE_BOUND: usize = 65_536;
+use tko_text::{Key, Keys, LINE_LIMIT, Request};
 
 /// How many bytes of a line are no keys and no spaces before them, at most: `gets`, CR and LF.
 const FRAME: usize = 6;
@@ -58,7 +55,7 @@ impl KeyLine {
             return Err(NoMemory);
         };
         let bytes = self.bytes.saturating_add(key.as_bytes().len() + 1);
-        if bytes > LINE_BOUND || has_key(&self.request, key) {
+        if bytes > LINE_LIMIT || has_key(&self.request, key) {
             return Ok(false);
         }
         let key = key.copy(alloc)?;

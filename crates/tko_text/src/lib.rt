@@ -27,6 +27,7 @@ pub use item::Item;
 pub use key::Key;
 pub use keys::Keys;
 pub use laws::{any_cutting, read_again};
+pub use line::LINE_LIMIT;
 pub use reader::{FeedFault, Reader};
 pub use request::{Entry, Request, Verb};
 pub use response::{Data, Listed, ReadFault, Response, Text, Value, one_response};

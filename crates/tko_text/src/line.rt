@@ -12,7 +12,7 @@ use std::alloc::Global;
 use tko_bytes::{SpacedWords, number};
 
 /// How many bytes a line may have before its LF, a CR counted.
-pub(crate) const LINE_LIMIT: usize = 65_536;
+pub const LINE_LIMIT: usize = 65_536;
 
 /// The greatest flags.
 pub(crate) const FLAGS_LIMIT: u64 = 4_294_967_295;
