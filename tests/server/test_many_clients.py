@@ -4,8 +4,9 @@ import time
 
 from crowd import Burden, Crowd
 from parts import ServerTest, configuration, only_in
-from ports import wait_until
+from ports import HOST, free_port, wait_until
 from test_log import log_of
+from test_metrics import ask, numbers_in
 from talk import store, values
 
 VERSION = b"VERSION tkoproxy 1\r\n"
@@ -17,7 +18,9 @@ SPARE = 200
 # How long a test waits for what comes at once on an idle machine.
 SLACK = 10
 LARGE = b"x" * 100_000
-MIB = b"y" * 1_000_000
+MIB = b"y" * 1_048_576
+# A time limit that no test comes to, in milliseconds.
+NEVER_REACHED = 600_000
 # More failures in a row than a server's death makes of the connections to it, and fewer than the requests that wait then.
 ABOVE_CONNECTIONS = 50
 
@@ -35,6 +38,12 @@ class ManyClients(ServerTest):
         if count < wanted:
             print(f"{count} clients in place of {wanted}: {allowed} files may be open ", end="", flush=True)
         return count
+
+    @staticmethod
+    def bytes_that_wait(metrics):
+        """How many bytes of replies the workers hold, as the metrics at this port tell."""
+        numbers = numbers_in(ask(metrics)[2])
+        return sum(numbers[f'tkoproxy_worker_waiting_bytes{{worker="{worker}"}}'] for worker in range(WORKERS))
 
     def test_five_thousand_clients_at_once(self):
         server, count = self.memcached(), self.most_clients(MANY)
@@ -75,17 +84,20 @@ class ManyClients(ServerTest):
         self.assertEqual(first[0].ask(b"version\r\n"), VERSION)
 
     def test_good_clients_beside_nine_hundred_bad_ones(self):
-        server = self.memcached("-I", "2m")
+        """None of the bad ones is ended meanwhile."""
+        server, metrics = self.memcached("-I", "2m"), free_port()
         self.most_clients(1000)
-        proxy = self.served(server, write_timeout=1000)
+        proxy = self.served(server, write_timeout=NEVER_REACHED, metrics=f"{HOST}:{metrics}")
         with proxy.client() as client:
             self.assertEqual(client.ask(store(b"large", LARGE)), b"STORED\r\n")
         burden = self.kept(Burden(proxy.port))
-        burden.add(250)
-        burden.add(250, first=b"set slow 0 0 100000\r\n", piece=b"x")
-        burden.add(200, first=b"get large\r\n" * 20, taken=100, received=4096)
-        burden.add(200, first=b"get large\r\n" * 20, received=4096)
+        burden.add(300)
+        burden.add(300, first=b"set slow 0 0 100000\r\n", piece=b"x")
+        burden.add(150, first=b"get large\r\n" * 200, taken=100, received=4096)
+        burden.add(150, first=b"get large\r\n" * 200, received=4096)
         burden.start()
+        # Once their sockets are full, at least 64 KiB of replies wait for each of the last.
+        wait_until(lambda: self.bytes_that_wait(metrics) >= 150 * 65536, 6 * SLACK, "replies wait for them")
         good = [self.client(proxy.port) for _ in range(100)]
         for turn in range(30):
             for number, client in enumerate(good):
@@ -95,6 +107,8 @@ class ManyClients(ServerTest):
                 self.assertEqual(client.ask(b"get good-%d\r\n" % number), values((b"good-%d" % number, b"%d" % turn)))
         for client in good[:10]:
             self.assertEqual(client.ask(b"get large\r\n"), values((b"large", LARGE)))
+        self.assertGreater(self.bytes_that_wait(metrics), 0)
+        self.assertEqual(numbers_in(ask(metrics)[2])["tkoproxy_clients_connected"], 1000)
         self.assertEqual(set(proxy.marks().values()), {"up:0"})
 
     def test_a_fresh_client_beside_three_hundred_that_trickle_through_replies_of_a_mebibyte(self):
@@ -180,8 +194,10 @@ class ManyUnderFailures(ServerTest):
         self.ends_well()
 
     def test_a_server_that_restarts_is_not_marked_soft(self):
-        """A connection that ends is one failure, and not one for each request that waits on it. A server that dies may
-        have accepted some more connections meanwhile, which are failures of their own."""
+        """A connection that ends is one failure, and not one for each of the 500 requests or so that wait on it. While
+        a killed server ends, the system may still accept connections to it: these end too, and each of them is one more
+        failure in a row. With the default of 3 failures, and 2 workers, one restart in ten made a soft mark on a busy
+        machine, with 4 failures fewer than one in a hundred. So 50 are allowed here."""
         self.begin(failures=ABOVE_CONNECTIONS)
         for _ in range(5):
             self.near.kill()
