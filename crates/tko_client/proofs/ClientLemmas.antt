@@ -132,7 +132,7 @@ pub stage_awaits : (at : ClientStanding) (it : Answering) → CourseStands at it
 stage_awaits course.Going it stands = tt
 stage_awaits course.Waits it stands = stands
 stage_awaits course.Full it stands = idle_awaits it stands
-stage_awaits course.NeedsInput it stands = idle_awaits it stands
+stage_awaits course.NeedsInput it stands = idle_awaits it stands.0
 stage_awaits course.Ended it stands = idle_awaits it stands
 stage_awaits course.Over it stands = idle_awaits it stands
 stage_awaits course.TooLong it stands = idle_awaits it stands

@@ -1,7 +1,8 @@
 -- A client goes on, call after call, until it stands so that it cannot.
-use Rattle.std.proofs.Common.{◌≡◌, ◌≢◌, ℕ, Bool, true, false, not, List, [], ◌∷◌, ◌++◌, length}
-use Rattle.std.proofs.Common.{Option, None, refl, sym, ap, subst, ◌∙◌}
-use Rattle.std.specs.Bool.{OnTrue}
+use Rattle.std.proofs.Common.{◌≡◌, ◌≢◌, ℕ, Bool, true, false, eqb, not, List, [], ◌∷◌, ◌++◌}
+use Rattle.std.proofs.Common.{length, Option, None, refl, sym, ap, subst, ◌∙◌, arith}
+use Rattle.std.proofs.lemmas.Bool.{eqb-true}
+use Rattle.std.specs.Bool.{OnFalse, OnTrue}
 use Rattle.std.specs.Prelude.{IfSome, IsSome}
 use Rattle.tko_port.specs.Talks.{HasReplies}
 use Rattle.tko_session.specs.Outgoing.{outgoing}
@@ -33,6 +34,15 @@ first_there {all} false [] none more =
 first_there {all} false (b ∷ first) none more = λ is.
     let same : b ∷ (first ++ more.more) ≡ [] = sym more.is ∙ is in
     let no : ⊥ = cc in no
+
+-- where none is the first of the replies, there are none
+pub none_there : {all : List ℕ} (empty : Bool) (first : List ℕ) → empty ≡ eqb (length first) 0
+    → (first ≡ [] → all ≡ []) → OnFalse (not empty) (all ≡ [])
+none_there false first is none = tt
+none_there true [] is none = none refl
+none_there true (b ∷ first) is none =
+    let no : length (b ∷ first) ≡ 0 = eqb-true (length (b ∷ first)) 0 (sym is) in
+    absurd (omega (arith, no))
 
 -- what calls leave of the parts, health has the servers of the configuration still
 pub servers_on : {H T C : Type 0} {servers : H → ℕ} {old new : Parts H (List ℕ) T C}
@@ -66,7 +76,7 @@ module _ {H T C : Type 0} (ghosts : PartsGhosts H (List ℕ) T C) (servers : H �
       → asked ≡ server_asked_in came
       → (there ≡ course.Short → asked ≡ None) → (WentStands came new.0 → CourseStands there new.0)
       → ((reading : Reading) → WentReading came reading → CourseReading there reading)
-      → ((output : List ℕ) → HasReplies (stage_of there) output)
+      → HasReplies (stage_of there) (outgoing new.0.session)
       → HasGone ghosts (client_at Open old.0, old.1) (client_at Open mid.0, mid.1)
       → IsAsking None (awaited_by_client old.0) (awaited_by_client mid.0)
       → HasStayed servers old.1 mid.1
@@ -78,7 +88,7 @@ module _ {H T C : Type 0} (ghosts : PartsGhosts H (List ℕ) T C) (servers : H �
         asks = subst (λ a. IsAsking a (awaited_by_client old.0) (awaited_by_client new.0)) (sym is)
             (asking_on (server_asked_in came) (awaited_by_client old.0) (awaited_by_client mid.0)
             (awaited_by_client new.0) none call.asks);
-        replies = replies (outgoing new.0.session);
+        replies = replies;
         left = halt_left came there asked old mid new is short stands reads stays call.left;
       }
 

@@ -1,7 +1,7 @@
 -- A client that is called has one session's life still.
-use Rattle.std.proofs.Common.{◌≡◌, ◌≤◌, ℕ, List, [], ◌++◌, length, take, Option, Some, None, refl}
-use Rattle.std.proofs.Common.{sym, ap, subst, ◌∙◌, append-nil, arith}
-use Rattle.std.proofs.lemmas.List.{length-take, take-take}
+use Rattle.std.proofs.Common.{◌≡◌, ◌≤◌, ◌-◌, ℕ, List, [], ◌++◌, length, drop, take, Option, Some}
+use Rattle.std.proofs.Common.{None, refl, sym, ap, subst, ◌∙◌, append-nil, arith}
+use Rattle.std.proofs.lemmas.List.{length-drop, length-take, take-take}
 use Rattle.tko_pools.specs.Configs.{Configuration}
 use Rattle.tko_reply.specs.Ghosts.{PartsGhosts}
 use Rattle.tko_reply.specs.declared.parts.Parts.{Parts}
@@ -11,7 +11,8 @@ use Rattle.tko_keys.specs.KeysState.{KeysState}
 use Rattle.tko_keys.specs.declared.plan.KeyPlan.{KeyPlan}
 use Rattle.tko_session.specs.Awaiting.{awaited_in}
 use Rattle.tko_session.specs.Driven.{IsSessionReady, MayGoOn}
-use Rattle.tko_session.specs.Outgoing.{outgoing, outgoing_in, sent_from, shifted_work}
+use Rattle.tko_session.specs.Outgoing.{outgoing, outgoing_in, sent_from, shifted_begin}
+use Rattle.tko_session.specs.Outgoing.{shifted_work}
 use Rattle.tko_session.specs.SessionState.{SessionState}
 use Rattle.tko_session.specs.Working.{Work}
 use Rattle.tko_session.specs.Working as work
@@ -21,7 +22,8 @@ use Rattle.tko_client.specs.declared.answering.Answering.{Answering}
 use Rattle.tko_client.specs.declared.client.ClientStanding.{ClientStanding}
 use Rattle.tko_client.specs.declared.client.ClientStanding.TheVariants as course
 use Rattle.tko_client.specs.declared.client.EventClient.{EventClient}
-use Rattle.tko_client.specs.Answerings.{AreKeysReady, IsIdleWith, IsOwn, MayCallWith, awaited_with}
+use Rattle.tko_client.specs.Answerings.{AreKeysReady, HasFewReplies, IsIdleWith, IsOwn}
+use Rattle.tko_client.specs.Answerings.{MayCallWith, awaited_with}
 use Rattle.tko_client.specs.Clients.{CourseReading, CourseStands, DoesAs, IsReadyAfter, IsReadyOver}
 use Rattle.tko_client.specs.Clients.{bytes_in, client_of}
 use Rattle.tko_client.specs.Steps.{HasStayed}
@@ -91,13 +93,54 @@ waits_still (Some keys) at count = refl
 abbrev sent_answering : Answering → ℕ → Answering
 sent_answering old count = record old { session = sent_from old.session count }
 
+-- fewer replies may be written
+few_in : (at : Work) (begin count : ℕ) (outbox : List ℕ)
+    → length (outgoing_in (shifted_work count at) (shifted_begin count at begin)
+    (drop count outbox)) ≤ length (outgoing_in at begin outbox)
+few_in work.Between begin count outbox = omega (arith, length-drop count outbox)
+few_in (work.Read one) begin count outbox =
+    omega (
+      arith,
+      length-take (begin - count) (drop count outbox),
+      length-drop count outbox,
+      length-take begin outbox,
+    )
+few_in (work.Awaits it) begin count outbox =
+    omega (
+      arith,
+      length-take (begin - count) (drop count outbox),
+      length-drop count outbox,
+      length-take begin outbox,
+    )
+few_in (work.Ended one) begin count outbox =
+    omega (
+      arith,
+      length-take (begin - count) (drop count outbox),
+      length-drop count outbox,
+      length-take begin outbox,
+    )
+few_in work.HandedOver begin count outbox =
+    omega (
+      arith,
+      length-take (begin - count) (drop count outbox),
+      length-drop count outbox,
+      length-take begin outbox,
+    )
+
+few_still : (old : Answering) (count : ℕ) → HasFewReplies old
+    → HasFewReplies (sent_answering old count)
+few_still old count few =
+    let fewer = few_in old.session.work old.session.begin count old.session.outbox in
+    omega (arith, fewer, few)
+
 stands_still : (course : ClientStanding) (old : Answering) (count : ℕ) → CourseStands course old
     → CourseStands course (sent_answering old count)
 stands_still course.Going old count is = may_still old.keys old.session.work count is
 stands_still course.Waits old count is =
     λ none. is (sym (waits_still old.keys old.session.work count) ∙ none)
 stands_still course.Full old count is = idle_still old.keys old.session.work count is
-stands_still course.NeedsInput old count is = idle_still old.keys old.session.work count is
+stands_still course.NeedsInput old count is =
+    (idle_still old.keys old.session.work count is.0, few_still old count is.1)
 stands_still course.Ended old count is = idle_still old.keys old.session.work count is
 stands_still course.Over old count is = idle_still old.keys old.session.work count is
 stands_still course.TooLong old count is = idle_still old.keys old.session.work count is

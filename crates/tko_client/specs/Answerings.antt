@@ -1,15 +1,17 @@
 -- What a client's requests are answered by: its session, or the keys of a request that the session
 -- handed over.
-use Rattle.std.specs.Prelude.{◌≡◌, ◌+◌, ℕ, List, [], Option, Some, None, length}
+use Rattle.std.specs.Prelude.{◌≡◌, ◌<◌, ◌+◌, ℕ, List, [], Option, Some, None, length}
 use Rattle.tko_bytes.specs.Numbers.{capped}
 use Rattle.tko_text.specs.declared.request.Request.{Request}
 use Rattle.tko_pools.specs.Configs.{Configuration}
+use Rattle.tko_reply.specs.Replies.{reply_bound}
 use Rattle.tko_mux.specs.Awaits.{awaited_one}
 use Rattle.tko_keys.specs.KeysDriven.{AreUnderWay}
 use Rattle.tko_keys.specs.KeysState.{KeysState, asked_first, asked_last, awaited, bytes_held_in}
 use Rattle.tko_session.specs.Awaiting.{awaited_in}
 use Rattle.tko_session.specs.Clients.{ClientPhase, ClientState}
 use Rattle.tko_session.specs.Driven.{IsSessionReady, MayGoOn}
+use Rattle.tko_session.specs.Outgoing.{outgoing}
 use Rattle.tko_session.specs.Working.{Work}
 use Rattle.tko_session.specs.Working as work
 use Rattle.tko_client.specs.declared.answering.Answering.{Answering}
@@ -59,6 +61,10 @@ held_with (Some keys) count = capped (count + bytes_held_in keys.slots)
 
 abbrev pub held_by_client : Answering → ℕ
 held_by_client it = held_with it.keys (length it.session.outbox)
+
+-- fewer bytes of replies may be written than are to be written before more input is taken
+abbrev pub HasFewReplies : Answering → Type 0
+HasFewReplies it = length (outgoing it.session) < reply_bound
 
 -- the session answers its requests itself
 abbrev pub IsOwn : Work → Type 0

@@ -26,7 +26,8 @@ use Rattle.tko_client.specs.declared.client.ClientStanding.TheVariants.{Ended as
 use Rattle.tko_client.specs.declared.client.ClientStanding.TheVariants.{Going, NeedsInput, Over}
 use Rattle.tko_client.specs.declared.client.ClientStanding.TheVariants.{Short, TooLong, Waits}
 use Rattle.tko_client.specs.declared.client.EventClient.{EventClient}
-use Rattle.tko_client.specs.Answerings.{IsAnsweringReady, IsClientIdle, MayCallClient}
+use Rattle.tko_client.specs.Answerings.{HasFewReplies, IsAnsweringReady, IsClientIdle}
+use Rattle.tko_client.specs.Answerings.{MayCallClient}
 use Rattle.tko_client.specs.Answerings.{awaited_by_client, client_at, held_by_client}
 use Rattle.tko_client.specs.Comings.{is_unsent, result_of}
 use Rattle.tko_client.specs.Keys.{IsSendOf, came_by}
@@ -63,12 +64,12 @@ CourseReading TooLong reading = reading.after ≡ Never
 CourseReading Short reading = Unit {0}
 
 -- how a client stands: it can be called; or it waits, and a request is under way; else no request
--- of it is being asked for
+-- of it is being asked for, and where it needs more input few of its replies wait
 abbrev pub CourseStands : ClientStanding → Answering → Type 0
 CourseStands Going it = MayCallClient it
 CourseStands Waits it = awaited_by_client it ≢ []
 CourseStands Full it = IsClientIdle it
-CourseStands NeedsInput it = IsClientIdle it
+CourseStands NeedsInput it = IsClientIdle it × HasFewReplies it
 CourseStands CourseEnded it = IsClientIdle it
 CourseStands Over it = IsClientIdle it
 CourseStands TooLong it = IsClientIdle it
@@ -84,6 +85,18 @@ IsAsked CourseEnded it = ⊥
 IsAsked Over it = ⊥
 IsAsked TooLong it = ⊥
 IsAsked Short it = ⊥
+
+-- how a client stands that took all of its input: its replies are to be written first, or it needs
+-- more, and few of its replies wait if no request of it is being asked for
+abbrev pub IsToRead : ClientStanding → Answering → Type 0
+IsToRead Going it = ⊥
+IsToRead Waits it = ⊥
+IsToRead Full it = outgoing it.session ≢ []
+IsToRead NeedsInput it = IsClientIdle it → HasFewReplies it
+IsToRead CourseEnded it = ⊥
+IsToRead Over it = ⊥
+IsToRead TooLong it = ⊥
+IsToRead Short it = ⊥
 
 -- the client of a worker that this is
 abbrev pub client_of : EventClient → ClientState

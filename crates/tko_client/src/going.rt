@@ -1,8 +1,9 @@
 //! A client goes on as far as it can.
 ghost use Rattle.std.specs.Prelude.{◌≡◌, ◌≢◌, [], length};
-ghost use Rattle.std.specs.Bool.{OnTrue};
+ghost use Rattle.std.specs.Bool.{OnFalse, OnTrue};
 ghost use Rattle.tko_session.specs.Outgoing.{outgoing};
-ghost use Rattle.tko_client.specs.Answerings.{IsAnsweringReady, IsClientIdle, MayCallClient};
+ghost use Rattle.tko_client.specs.Answerings.{HasFewReplies, IsAnsweringReady, IsClientIdle};
+ghost use Rattle.tko_client.specs.Answerings.{MayCallClient};
 ghost use Rattle.tko_client.specs.Calls.{IsCalled, IsHalted};
 ghost use Rattle.tko_client.specs.Steps.{client_ghosts};
 
@@ -54,9 +55,10 @@ pub(crate) fn go_on<R: IoRuntime, H: Health, T: Trails, C>(
 
 /// Whether replies are to be written before it goes on. The keys of a request go on all the same,
 /// since their replies are held whether or not those before are written.
-fn is_to_write(it: &Answering) -> bool
+pub(crate) fn is_to_write(it: &Answering) -> bool
     ensures some { OnTrue result (outgoing it.now.session ≢ []) }
     ensures idle { OnTrue result (MayCallClient it.now → IsClientIdle it.now) }
+    ensures few { OnFalse result (IsClientIdle it.now → HasFewReplies it.now) }
 {
     it.keys.is_none() && it.session.is_full() && has_output(&it.session)
 }
@@ -64,6 +66,7 @@ fn is_to_write(it: &Answering) -> bool
 /// Whether replies may be written.
 fn has_output(session: &Session) -> bool
     ensures some { OnTrue result (outgoing session.now ≢ []) }
+    ensures none { OnFalse result (outgoing session.now ≡ []) }
 {
     !session.output().is_empty()
 }

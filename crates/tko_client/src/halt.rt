@@ -1,14 +1,16 @@
 //! How a client stands once a call of it came to something.
-ghost use Rattle.std.specs.Prelude.{◌≡◌, ◌≢◌, ℕ, List, None};
+ghost use Rattle.std.specs.Prelude.{◌≡◌, ◌≢◌, None};
 ghost use Rattle.tko_text.specs.Reading.{Reading};
 ghost use Rattle.tko_port.specs.Talks.{HasReplies};
-ghost use Rattle.tko_client.specs.Clients.{CourseReading, CourseStands, IsAsked, phase_at};
-ghost use Rattle.tko_client.specs.Clients.{stage_of};
+ghost use Rattle.tko_session.specs.Outgoing.{outgoing};
+ghost use Rattle.tko_client.specs.Clients.{CourseReading, CourseStands, IsAsked, IsToRead};
+ghost use Rattle.tko_client.specs.Clients.{phase_at, stage_of};
 ghost use Rattle.tko_client.specs.Steps.{WentReading, WentStands, phase_of, server_asked_in};
 
 use crate::ClientStanding;
 use crate::answering::Answering;
 use crate::calls::Went;
+use crate::going::is_to_write;
 use tko_model::Clear;
 
 /// What calls of a client came to.
@@ -29,7 +31,7 @@ impl Halt {
         ensures short { result.course ≡ ClientStanding.Short → result.asked ≡ None }
         ensures reading { (reading : Reading) → WentReading went reading
             → CourseReading result.course reading }
-        ensures replies { (output : List ℕ) → HasReplies (stage_of result.course) output }
+        ensures replies { HasReplies (stage_of result.course) (outgoing it.now.session) }
     {
         match went {
             Went::Asks(clear) => Halt {
@@ -45,7 +47,7 @@ impl Halt {
                 asked: None,
             },
             Went::NeedsInput => Halt {
-                course: ClientStanding::NeedsInput,
+                course: course_reading(it),
                 asked: None,
             },
             Went::Over => Halt {
@@ -72,5 +74,16 @@ fn course_asking(it: &Answering) -> ClientStanding
         ClientStanding::Going
     } else {
         ClientStanding::Waits
+    }
+}
+
+/// How a client stands that took all of its input.
+fn course_reading(it: &Answering) -> ClientStanding
+    ensures { IsToRead result it.now }
+{
+    if is_to_write(it) {
+        ClientStanding::Full
+    } else {
+        ClientStanding::NeedsInput
     }
 }

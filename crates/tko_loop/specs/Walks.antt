@@ -1,6 +1,7 @@
 -- The walk over the clients: how far each is, and which of them end by their limits.
-use Rattle.std.specs.Prelude.{◌≡◌, ◌≤◌, ◌<◌, ◌+◌, ◌-◌, ◌↔◌, nat_le, if◌then◌else◌, ℕ, Bool, true, false, zero, suc, List, [], ◌∷◌, Option, Some, None, length, slice_get}
+use Rattle.std.specs.Prelude.{◌≡◌, ◌≤◌, ◌<◌, ◌+◌, ◌-◌, ◌↔◌, ◌⊎◌, nat_le, if◌then◌else◌, ℕ, Bool, true, false, zero, suc, List, [], ◌∷◌, Option, Some, None, length, slice_get}
 use Rattle.std.specs.Option.{option_and_then}
+use Rattle.tko_model.specs.Records.{Gains}
 use Rattle.tko_roster.specs.Rosters.{session_at}
 use Rattle.tko_mux.specs.declared.client.Client.{Client}
 use Rattle.tko_pace.specs.declared.client_time.ClientTime.{ClientTime}
@@ -15,7 +16,7 @@ use Rattle.tko_port.specs.declared.settling.End.{End}
 use Rattle.tko_port.specs.declared.settling.End.TheVariants.{ReadFailed, WriteFailed}
 use Rattle.tko_port.specs.declared.talking.Tally.{Tally}
 use Rattle.tko_port.specs.Talks.{Talk}
-use Rattle.tko_worker.specs.Workers.{Sight, tally_at}
+use Rattle.tko_worker.specs.Workers.{OthersStay, Sight, tally_at}
 
 -- whether a client awaits a server
 abbrev pub is_waiting_for : List ℕ → Bool
@@ -132,3 +133,24 @@ abbrev pub IsHeaviestIf : {L T : Type 0} → Sight L T → List (Option (Client 
     → Option ℕ → Type 0
 IsHeaviestIf sight slots bound None = waiting_below sight slots (length slots) ≤ bound
 IsHeaviestIf sight slots bound (Some number) = IsHeaviest sight slots bound number
+
+-- one of those with the most bytes is to leave, or left, where more wait than the bound; the others
+-- stay
+pub record IsDismissed {L T : Type 0} (sight : Sight L T) (bound : ℕ)
+    (old : List (Option (Client (Guest L T)))) (number : ℕ)
+    (new : List (Option (Client (Guest L T)))) : Type 0 where
+  pub heaviest : IsHeaviest sight old bound number
+  pub leaves : LeavesBy WriteFailed (session_at new number)
+  pub others : OthersStay number old new
+
+-- so many clients leave for the bound in one walk, at most
+abbrev pub most_leavers : ℕ
+most_leavers = 256
+
+-- clients left for the bound, one after another, until no more bytes than that waited, or until as
+-- many left as may in one walk
+pub record IsRelieved {L T : Type 0} (sight : Sight L T) (bound : ℕ)
+    (old new : List (Option (Client (Guest L T)))) : Type 0 where
+  pub gone : List ℕ
+  pub each : Gains (IsDismissed sight bound) old gone new
+  pub ends : (waiting_below sight new (length new) ≤ bound) ⊎ (length gone ≡ most_leavers)

@@ -2,7 +2,7 @@
 ghost use Rattle.std.specs.Prelude.{◌≡◌, ◌≤◌, ◌⊎◌, [], length};
 ghost use Rattle.tko_roster.specs.Rosters.{session_at};
 ghost use Rattle.tko_worker.specs.Workers.{IsInOrder, OthersStay};
-ghost use Rattle.tko_loop.specs.Walks.{AreWaits, HasWalked, IsHeaviestIf, IsJudged, IsSeenIf, LeavesBy, bound_without, progress_at, waiting_at};
+ghost use Rattle.tko_loop.specs.Walks.{AreWaits, HasWalked, IsHeaviestIf, IsJudged, IsRelieved, IsSeenIf, LeavesBy, bound_without, progress_at, waiting_at};
 
 use std::alloc::Global;
 use tko_pace::{ClientProgress, ClientTime, Verdict};
@@ -117,6 +117,8 @@ pub(crate) fn relieve<P, L: Port + Drop, T: Talking<P> + Drop>(
     bound: usize,
 )
     requires order { IsInOrder (T.awaited, T.talk, L.port) T.ready clients.old }
+    ensures relieved { IsRelieved (T.awaited, T.talk, L.port) bound clients.old.mux.roster.slots
+        clients.new.mux.roster.slots }
     ensures order { IsInOrder (T.awaited, T.talk, L.port) T.ready clients.new }
 {
     let mut waits = Vec::new(alloc);
@@ -160,6 +162,8 @@ fn dismiss<P, L: Port + Drop, T: Talking<P> + Drop>(
     ensures waits { AreWaits (T.awaited, T.talk, L.port) clients.new.mux.roster.slots waits.new }
     ensures leaves { LeavesBy End.WriteFailed
         (session_at clients.new.mux.roster.slots number) }
+    ensures others { OthersStay number clients.old.mux.roster.slots
+        clients.new.mux.roster.slots }
     ensures order { IsInOrder (T.awaited, T.talk, L.port) T.ready clients.new }
 {
     end(clients, alloc, number, End::WriteFailed);

@@ -1,5 +1,7 @@
+use Rattle.std.proofs.Common.{◌≡◌, ℕ, List, length}
+use Rattle.tko_model.specs.Records.{Gains}
 use Rattle.tko_worker.specs.Workers.{IsInOrder}
-use Rattle.tko_loop.specs.Walks.{AreWaits}
+use Rattle.tko_loop.specs.Walks.{AreWaits, IsDismissed}
 use Rattle.tko_loop.proofs.walk.relieve.Given as goal
 
 abbrev pub invariant-loop : goal.invariant-loop
@@ -8,4 +10,8 @@ invariant-loop g l = record {
       l.clients;
   waits : AreWaits (g.T.Talking.awaited, g.T.Talking.talk, g.L.Port.port)
       l.clients.mux.roster.slots l.waits.items;
+  left : (gone : List ℕ)
+      × Gains (IsDismissed (g.T.Talking.awaited, g.T.Talking.talk, g.L.Port.port) l.bound)
+      l.initial.clients.mux.roster.slots gone l.clients.mux.roster.slots
+      × (length gone ≡ l.counter);
 }
