@@ -22,7 +22,8 @@ use Rattle.tko_keys.specs.KeysActs.{asked_keys, came_lost, came_parts, came_with
 use Rattle.tko_keys.specs.KeysActs as act
 use Rattle.tko_keys.specs.KeysDriven.{AreUnderWay, HasArrived, IsDueAt, IsSentAt}
 use Rattle.tko_keys.specs.KeysDriven as driven
-use Rattle.tko_keys.specs.KeysState.{KeySend, KeySlot, KeysState, awaited, first_send, keys_first}
+use Rattle.tko_keys.specs.KeysState.{KeySend, KeySlot, KeysState, awaited_servers, first_send}
+use Rattle.tko_keys.specs.KeysState.{keys_first}
 use Rattle.tko_keys.specs.KeysState.{without_first}
 use Rattle.tko_keys.specs.Lines.{key_in_request, outcome_by}
 use Rattle.tko_client.specs.Answerings.{AreSettled}
@@ -75,10 +76,11 @@ part_sent true key outcome.Spent = refl
 -- a server is awaited once less where this is left of the requests under way
 left_takes : (server : ℕ) (old mid new : KeysState) (left : List KeySend) → mid.sends ≡ left
     → new.sends ≡ mid.sends
-    → ((n : ℕ) → times_due (servers_of left) n + one_if (server == n) ≡ times_due (awaited old) n)
-    → TakesAt server None (awaited old) (awaited new)
+    → ((n : ℕ) → times_due (servers_of left) n + one_if (server == n)
+    ≡ times_due (awaited_servers old) n)
+    → TakesAt server None (awaited_servers old) (awaited_servers new)
 left_takes server old mid new left is same takes = λ n.
-    let now : times_due (awaited new) n ≡ times_due (servers_of left) n =
+    let now : times_due (awaited_servers new) n ≡ times_due (servers_of left) n =
     ap (λ xs. times_due (servers_of xs) n) (same ∙ is) in omega (arith, now, takes n)
 
 module _ {H T C : Type 0} (health : HealthGhosts H) (trails : TrailsGhosts T) where

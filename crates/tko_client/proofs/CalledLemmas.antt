@@ -6,7 +6,7 @@ use Rattle.tko_reply.specs.Ghosts.{PartsGhosts}
 use Rattle.tko_reply.specs.Interactions.{Interaction}
 use Rattle.tko_reply.specs.declared.parts.Parts.{Parts}
 use Rattle.tko_mux.specs.Awaits.{IsAsking}
-use Rattle.tko_keys.specs.KeysState.{KeysState, awaited}
+use Rattle.tko_keys.specs.KeysState.{KeysState, awaited_servers}
 use Rattle.tko_session.specs.Awaiting.{awaited_in}
 use Rattle.tko_session.specs.Clients.{Open, Short}
 use Rattle.tko_session.specs.Acts as act
@@ -87,8 +87,9 @@ module _ {H T C : Type 0} (ghosts : PartsGhosts H (List ℕ) T C) (servers : H �
       let at = handed_at ready are in
       let has : act.HasKeys (client_at Open old) keys =
       record { going = refl; at = at; are = are } in
-      let asks : IsAsking (server_asked_in came) (awaited_by_client old) (awaited now) =
-      subst (λ k. IsAsking (server_asked_in came) (awaited_with k old.session.work) (awaited now))
+      let asks : IsAsking (server_asked_in came) (awaited_by_client old) (awaited_servers now) =
+      subst (λ k. IsAsking (server_asked_in came) (awaited_with k old.session.work)
+      (awaited_servers now))
       (sym are) call.asks in record {
         gone = gone_one ghosts call.done (
           act.keyed call.done keys now has call.act.0 refl
@@ -98,6 +99,7 @@ module _ {H T C : Type 0} (ghosts : PartsGhosts H (List ℕ) T C) (servers : H �
         );
         asks = asks;
         left = keys_left came old keys now parts parts after ready at refl call.left
-            (λ server is. asked_some server (awaited keys) (awaited now)
-            (subst (λ a. IsAsking a (awaited keys) (awaited now)) is call.asks)) stays;
+            (λ server is. asked_some server (awaited_servers keys) (awaited_servers now)
+            (subst (λ a. IsAsking a (awaited_servers keys) (awaited_servers now)) is
+            call.asks)) stays;
       }

@@ -3,7 +3,7 @@ use Rattle.std.proofs.Common.{◌≡◌, ℕ, List, [], Some, None, refl, sym, a
 use Rattle.tko_model.proofs.RecordLemmas.{gains_none}
 use Rattle.tko_reply.specs.Ghosts.{PartsGhosts}
 use Rattle.tko_reply.specs.declared.parts.Parts.{Parts}
-use Rattle.tko_keys.specs.KeysState.{IsComplete, awaited}
+use Rattle.tko_keys.specs.KeysState.{IsComplete, awaited_servers}
 use Rattle.tko_session.specs.Awaiting.{awaited_in}
 use Rattle.tko_session.specs.Clients.{Open, Short}
 use Rattle.tko_session.specs.Driven.{IsSessionReady, WasDroppedFrom, dropped}
@@ -42,7 +42,7 @@ module _ {H T C : Type 0} (ghosts : PartsGhosts H (List ℕ) T C) (servers : H �
       let nobody : awaited_by_client old ≡ [] =
       session_awaits old None none.0 (goes_none old.session.work none.1) in
       let empty : awaited_by_client new ≡ [] = ap (λ k. awaited_with k new.session.work) keyed
-      ∙ ap awaited begins.is in
+      ∙ ap awaited_servers begins.is in
       let begun : AreSettled parts.config keys =
       new_settled parts.config request old.plan keys (omega (arith, several)) begins in
       subst (λ w. IsCalled ghosts servers w (old, parts) (new, parts)) (sym is) (record {

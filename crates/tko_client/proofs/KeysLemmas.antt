@@ -19,7 +19,7 @@ use Rattle.tko_keys.specs.declared.step.KeyStep.{KeyStep}
 use Rattle.tko_keys.specs.KeysActs.{KeysAct, key_record}
 use Rattle.tko_keys.specs.KeysDriven.{AreUnderWay, HasSent, IsSentAt, NextBegun, NextLost}
 use Rattle.tko_keys.specs.KeysDriven.{with_loss}
-use Rattle.tko_keys.specs.KeysState.{KeysCame, KeysState, awaited, request_of}
+use Rattle.tko_keys.specs.KeysState.{KeysCame, KeysState, awaited_servers, request_of}
 use Rattle.tko_keys.specs.declared.step.KeyStep.TheVariants as step
 use Rattle.tko_keys.specs.KeysActs as act
 use Rattle.tko_keys.specs.KeysDriven as driven
@@ -90,7 +90,7 @@ module _ {H T C : Type 0} (ghosts : PartsGhosts H (List ℕ) T C) where
   calm_call old new parts after has sends came was ready = record {
     done = has.done;
     act = has.act;
-    asks = same_asking (awaited old) (awaited new) (ap servers_of sends);
+    asks = same_asking (awaited_servers old) (awaited_servers new) (ap servers_of sends);
     left = record {
       request = tt;
       goes = tt;
@@ -187,7 +187,7 @@ module _ {H T C : Type 0} (ghosts : PartsGhosts H (List ℕ) T C) where
         asks = λ at.
             let to : one_if (is.send.server == at) ≡ one_if (clear == at) =
             ap (λ (n : ℕ). one_if (n == at)) (is.to ∙ sym names) in
-            let more : times_due (awaited new) at ≡ times_due
+            let more : times_due (awaited_servers new) at ≡ times_due
             (servers_of (old.sends ++ is.send ∷ [])) at =
             ap (λ xs. times_due (servers_of xs) at) sends in
             omega (

@@ -10,7 +10,7 @@ use Rattle.tko_reply.specs.Ghosts.{PartsGhosts}
 use Rattle.tko_reply.specs.declared.parts.Parts.{Parts}
 use Rattle.tko_keys.specs.KeysDriven.{AreUnderWay, IsDueAt, IsOutAt, IsSentAt}
 use Rattle.tko_keys.specs.KeysState.{DueKey, IsComplete, IsNew, KeySend, KeysState, MayBegin}
-use Rattle.tko_keys.specs.KeysState.{awaited, key_places_in}
+use Rattle.tko_keys.specs.KeysState.{awaited_servers, key_places_in}
 use Rattle.tko_keys.specs.declared.plan.Grouping.{Grouping}
 use Rattle.tko_keys.specs.declared.plan.Grouping.TheVariants.{ByServer}
 use Rattle.tko_keys.specs.declared.plan.KeyPlan.{KeyPlan}
@@ -50,7 +50,8 @@ keys_reading went.TooLong reading goes = absurd goes
 keys_reading went.Short reading goes = absurd goes
 
 keys_stands : (came : Went) (it : Answering) (now : KeysState) → IsOfKeys came → it.keys ≡ Some now
-    → ((server : ℕ) → server_asked_in came ≡ Some server → awaited now ≢ []) → WentStands came it
+    → ((server : ℕ) → server_asked_in came ≡ Some server → awaited_servers now ≢ [])
+    → WentStands came it
 keys_stands (went.Asks server) it now goes are some =
     λ empty. some server refl (sym (ap (λ k. awaited_with k it.session.work) are) ∙ empty)
 keys_stands went.On it now goes are some = subst (λ k. MayCallWith k it.session.work) (sym are) tt
@@ -65,7 +66,7 @@ pub keys_left : {H T C : Type 0} {ghosts : PartsGhosts H (List ℕ) T C} {server
     (came : Went) (old : Answering) (keys now : KeysState) (parts mid after : Parts H (List ℕ) T C)
     → IsAnsweringReady parts.config old → old.session.work ≡ work.HandedOver
     → mid.config ≡ parts.config → AreKeysLeft came (keys, mid) (now, after)
-    → ((server : ℕ) → server_asked_in came ≡ Some server → awaited now ≢ [])
+    → ((server : ℕ) → server_asked_in came ≡ Some server → awaited_servers now ≢ [])
     → HasStayed servers parts after
     → IsLeftByCall ghosts servers came (old, parts) (record old { keys = Some now }, after)
 keys_left came old keys now parts mid after ready at config left some stays =
@@ -111,15 +112,16 @@ none_sent [] is = refl
 none_sent (send ∷ sends) is = absurd (let no : ⊥ = cc in no)
 
 -- no request is under way for keys
-pub not_waiting : (keys : KeysState) (waits : Bool) → IsTrue waits ↔ (awaited keys ≢ [])
-    → waits ≡ false → awaited keys ≡ []
+pub not_waiting : (keys : KeysState) (waits : Bool) → IsTrue waits ↔ (awaited_servers keys ≢ [])
+    → waits ≡ false → awaited_servers keys ≡ []
 not_waiting keys waits some none =
-    subst (λ b. OnFalse b (awaited keys ≡ [])) none (none_true (awaited keys) waits some)
+    subst (λ b. OnFalse b (awaited_servers keys ≡ [])) none
+    (none_true (awaited_servers keys) waits some)
 
 -- nothing is due or under way for them, what came was taken on, and none may be begun
 pub complete_by : (keys : KeysState) (next : Option ℕ) (waits may : Bool) → keys.came.places ≡ []
     → IfNone next (keys.due ≢ [] → (keys.plan.grouping ≡ ByServer) × MayBegin keys)
-    → IsTrue waits ↔ (awaited keys ≢ []) → IsTrue may ↔ MayBegin keys
+    → IsTrue waits ↔ (awaited_servers keys ≢ []) → IsTrue may ↔ MayBegin keys
     → next ≡ None → waits ≡ false → may ≡ false → IsComplete keys
 complete_by keys next waits may settled due some begins first none never = (nothing, cannot)
   where

@@ -54,12 +54,12 @@ at_asks at is = ap (λ s. server_asked_in (went_from s)) is ∙ none_asked at
 
 -- where a send is out, the permission names its server
 abbrev pub NamesAt : Stage → Type 0
-NamesAt (stage.Away clear waiting) = waiting.server ≡ clear
+NamesAt (stage.Away clear awaited) = awaited.server ≡ clear
 NamesAt (stage.Done trail) = Unit {0}
 
 pub reached_names : (at : Stage) (targets : List ℕ) (form : ℕ → Request) (calls : List RoutedCall)
     → Reached targets form calls at → NamesAt at
-reached_names (stage.Away clear waiting) targets form calls (awaited, names, found) = sym names
+reached_names (stage.Away clear awaited) targets form calls (out, names, found) = sym names
 reached_names (stage.Done trail) targets form calls reached = tt
 
 pub goes_names : {course : Course} {calls : List RoutedCall} {outbox outbox' : List ℕ} {at : Stage}
@@ -69,11 +69,11 @@ goes_names {course} {calls} {at = at} goes =
 
 names_awaits : (at : Stage) (one : OneKey) → NamesAt at
     → awaited_in (work_of at one) ≡ server_asked_in (went_from (step_of at))
-names_awaits (stage.Away clear waiting) one names = ap Some names
+names_awaits (stage.Away clear awaited) one names = ap Some names
 names_awaits (stage.Done trail) one names = refl
 
 stage_began : (at : Stage) (w : Work) → BeganAt (step_of at) w
-stage_began (stage.Away clear waiting) w = tt
+stage_began (stage.Away clear awaited) w = tt
 stage_began (stage.Done trail) w = tt
 
 of_session : (said : Step) → IsOfSession (went_from said)
@@ -86,7 +86,7 @@ of_session (step.At progress.Quit) = tt
 of_session (step.At progress.LineTooLong) = tt
 
 own_stage : (at : Stage) (one : OneKey) → IsOwn (work_of at one)
-own_stage (stage.Away clear waiting) one = tt
+own_stage (stage.Away clear awaited) one = tt
 own_stage (stage.Done trail) one = tt
 
 -- a call that said this leaves the session so

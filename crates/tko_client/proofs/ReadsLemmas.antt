@@ -33,7 +33,7 @@ said_reading at reading is fits = subst (λ s. WentReading (went_from s) reading
 
 stage_reading : {said : Step} (at : Stage) (reading : Reading) → said ≡ step_of at
     → WentReading (went_from said) reading
-stage_reading (stage.Away clear waiting) reading is =
+stage_reading (stage.Away clear awaited) reading is =
     subst (λ s. WentReading (went_from s) reading) (sym is) tt
 stage_reading (stage.Done trail) reading is =
     subst (λ s. WentReading (went_from s) reading) (sym is) tt

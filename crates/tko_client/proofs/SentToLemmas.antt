@@ -29,7 +29,7 @@ use Rattle.tko_client.proofs.UnderWayLemmas.{all_first, some_first}
 pub record IsSentTo (at : Work) (server : ℕ) : Type 0 where
   pub it : SentKey
   pub is : at ≡ work.Awaits it
-  pub to : it.waiting.server ≡ server
+  pub to : it.awaited.server ≡ server
 
 sent_at : (at : Work) (server : ℕ) → awaited_in at ≡ Some server → IsSentTo at server
 sent_at work.Between server is = absurd (let no : ⊥ = cc in no)
@@ -59,7 +59,7 @@ record IsFirstSent (config : Configuration) (server : ℕ) : Type 0 where
   targets : List ℕ
   it : SentKey
   sent : IsSent config targets it
-  to : it.waiting.server ≡ server
+  to : it.awaited.server ≡ server
 
 -- a key of it
 one_sent : (config : Configuration) (slots : List KeySlot) (to : ℕ) (places : List ℕ)
@@ -72,7 +72,7 @@ one_sent config slots to (place ∷ places) unique grouping line each by =
     let is = All-head (λ (it : ℕ). IsDueAt config slots (driven.due it to)) place places each in
     record {
       targets = is.slot.targets;
-      it = asking is.waiting is.slot.key;
+      it = asking is.awaited is.slot.key;
       sent = is.is.sent;
       to = is.server;
     }
@@ -89,10 +89,10 @@ first_to config keys server ready some =
 
 -- a server that is awaited is one
 sent_within : (config : Configuration) (targets : List ℕ) (it : SentKey) → IsSent config targets it
-    → it.waiting.server < length config.addresses
+    → it.awaited.server < length config.addresses
 sent_within config targets it sent =
-    subst (λ n. n < length config.addresses) (sym sent.out.awaited.server)
-    (sent.out.within (length it.waiting.attempts) 0 sent.out.awaited.tried.shorter)
+    subst (λ n. n < length config.addresses) (sym sent.out.awaits.server)
+    (sent.out.within (length it.awaited.attempts) 0 sent.out.awaits.tried.shorter)
 
 pub awaited_within : (config : Configuration) (it : Answering) (server : ℕ)
     → IsAnsweringReady config it → 0 < times_due (awaited_by_client it) server

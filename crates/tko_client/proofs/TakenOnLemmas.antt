@@ -28,9 +28,9 @@ dropped_places : {config : Configuration} {came left : KeysCame} {old new : KeyS
     {calls : List RoutedCall} {attempts : List Attempt}
     → PartDropped config came old calls attempts left new
     → left.places ≡ came.places
-dropped_places (slots.in_call part waiting is out lost leaves) =
+dropped_places (slots.in_call part awaited is out lost leaves) =
     ap (λ (c : KeysCame). c.places) leaves.same
-dropped_places (slots.before waiting out none marks same is) = ap (λ (c : KeysCame). c.places) same
+dropped_places (slots.before awaited out none marks same is) = ap (λ (c : KeysCame). c.places) same
 
 module _ {H T C : Type 0} (ghosts : PartsGhosts H (List ℕ) T C) where
   -- the first key that something came for was taken on

@@ -15,7 +15,7 @@ use Rattle.tko_reply.specs.Standing.{SentKey}
 use Rattle.tko_reply.specs.declared.parts.Parts.{Parts}
 use Rattle.tko_reply.specs.declared.trails.Trails.{Ghosts as TrailsGhosts}
 use Rattle.tko_mux.specs.Awaits.{awaited_one}
-use Rattle.tko_keys.specs.KeysState.{KeysState, awaited}
+use Rattle.tko_keys.specs.KeysState.{KeysState, awaited_servers}
 use Rattle.tko_session.specs.Acts.{IsLoss, IsSessionCall, came_to}
 use Rattle.tko_session.specs.Awaiting.{awaited_in}
 use Rattle.tko_session.specs.Clients.{Open, Short}
@@ -55,10 +55,10 @@ session_takes server asked old new none sent without asks =
     (sym (session_awaits new asked without asks)) (one_taken server asked))
 
 keys_takes : (server : ℕ) (asked : Option ℕ) (old : Answering) (keys now : KeysState)
-    → old.keys ≡ Some keys → TakesAt server asked (awaited keys) (awaited now)
-    → TakesAt server asked (awaited_by_client old) (awaited now)
+    → old.keys ≡ Some keys → TakesAt server asked (awaited_servers keys) (awaited_servers now)
+    → TakesAt server asked (awaited_by_client old) (awaited_servers now)
 keys_takes server asked old keys now are takes =
-    subst (λ k. TakesAt server asked (awaited_with k old.session.work) (awaited now))
+    subst (λ k. TakesAt server asked (awaited_with k old.session.work) (awaited_servers now))
     (sym are) takes
 
 module _ {H T C : Type 0} (ghosts : PartsGhosts H (List ℕ) T C) where
@@ -98,7 +98,7 @@ module _ {H T C : Type 0} (health : HealthGhosts H) (trails : TrailsGhosts T)
       ap (λ (p : Parts H (List ℕ) T C). p.config) counts.others in
       let it_same : step.it ≡ sent.it =
       (let equal : work.Awaits step.it ≡ work.Awaits sent.it = sym step.at ∙ sent.is in cc) in
-      let to : step.it.waiting.server ≡ server = ap (λ (a : SentKey). a.waiting.server) it_same
+      let to : step.it.awaited.server ≡ server = ap (λ (a : SentKey). a.awaited.server) it_same
       ∙ sent.to in
       let done = came_to step.it (Ok result) ∷ step.then in
       let without : new.keys ≡ None = ap (λ (it : Answering). it.keys) same ∙ none in
@@ -140,7 +140,7 @@ module _ {H T C : Type 0} (health : HealthGhosts H) (trails : TrailsGhosts T)
       ap (λ (p : Parts H (List ℕ) T C). p.config) counts.others in
       let it_same : step.it ≡ sent.it =
       (let equal : work.Awaits step.it ≡ work.Awaits sent.it = sym step.at ∙ sent.is in cc) in
-      let to : step.it.waiting.server ≡ server = ap (λ (a : SentKey). a.waiting.server) it_same
+      let to : step.it.awaited.server ≡ server = ap (λ (a : SentKey). a.awaited.server) it_same
       ∙ sent.to in
       let done = came_to step.it (Ok result) ∷ step.then in
       let without : new.keys ≡ None = ap (λ (it : Answering). it.keys) same ∙ none in
@@ -202,14 +202,14 @@ module _ {H T C : Type 0} (health : HealthGhosts H) (trails : TrailsGhosts T)
       → slice_index parts.backend.links server ≢ most_sends
       → new ≡ record old { session = dropped old.session; told = new.told }
       → ((it : SentKey) → old.session.work ≡ work.Awaits it
-      → after ≡ with_noted it.waiting.attempts parts) → HasStayed servers parts after
+      → after ≡ with_noted it.awaited.attempts parts) → HasStayed servers parts after
       → IsTakenAs (client_ghosts health trails) servers unsent server
       (Err (record { sent = false })) went.Short (old, parts) (new, after)
   session_stopped unsent server old new parts after none sent room same noted stays =
       let session : new.session ≡ dropped old.session = ap (λ (it : Answering). it.session) same in
       let without : new.keys ≡ None = ap (λ (it : Answering). it.keys) same ∙ none in
       let between : new.session.work ≡ work.Between = ap (λ (s : SessionState). s.work) session in
-      let then : List Interaction = Noted sent.it.waiting.attempts ∷ [] in
+      let then : List Interaction = Noted sent.it.awaited.attempts ∷ [] in
       let done = came_to sent.it (Err (record { sent = false })) ∷ then in
       let sends : Interacts (client_ghosts health trails) parts
       (came_to sent.it (Err (record { sent = false }))) parts =

@@ -7,7 +7,8 @@ use Rattle.tko_pools.specs.Configs.{Configuration}
 use Rattle.tko_reply.specs.Replies.{reply_bound}
 use Rattle.tko_mux.specs.Awaits.{awaited_one}
 use Rattle.tko_keys.specs.KeysDriven.{AreUnderWay}
-use Rattle.tko_keys.specs.KeysState.{KeysState, asked_first, asked_last, awaited, bytes_held_in}
+use Rattle.tko_keys.specs.KeysState.{KeysState, asked_first, asked_last, awaited_servers}
+use Rattle.tko_keys.specs.KeysState.{bytes_held_in}
 use Rattle.tko_session.specs.Awaiting.{awaited_in}
 use Rattle.tko_session.specs.Clients.{ClientPhase, ClientState}
 use Rattle.tko_session.specs.Driven.{IsSessionReady, MayGoOn}
@@ -24,7 +25,7 @@ client_at phase it =
 -- the servers that its requests are under way to: one at most, without keys
 abbrev pub awaited_with : Option KeysState → Work → List ℕ
 awaited_with None at = awaited_one (awaited_in at)
-awaited_with (Some keys) at = awaited keys
+awaited_with (Some keys) at = awaited_servers keys
 
 abbrev pub awaited_by_client : Answering → List ℕ
 awaited_by_client it = awaited_with it.keys it.session.work

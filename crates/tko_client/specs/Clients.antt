@@ -137,7 +137,7 @@ module _ {H T C : Type 0} (ghosts : PartsGhosts H (List ℕ) T C) where
       (old new : ClientOver H T C) : Type 0 where
     pub it : SentKey
     pub at : old.0.session.work ≡ work.Awaits it
-    pub to : it.waiting.server ≡ server
+    pub to : it.awaited.server ≡ server
     pub then : List Interaction
     pub act : ActsWithoutBytes old.1.config old (came_to it result ∷ then) new
 

@@ -13,7 +13,8 @@ use Rattle.tko_reply.specs.declared.parts.Parts.{Parts}
 use Rattle.tko_mux.specs.Awaits.{IsAsking, one_asked, one_if, times_due}
 use Rattle.tko_keys.specs.KeysActs.{KeysAct, came_lost, came_parts, key_record}
 use Rattle.tko_keys.specs.KeysDriven.{AreUnderWay, HasStopped, IsUnsent, with_loss}
-use Rattle.tko_keys.specs.KeysState.{DueKey, KeySend, KeySlot, KeysState, asked_last, awaited}
+use Rattle.tko_keys.specs.KeysState.{DueKey, KeySend, KeySlot, KeysState, asked_last}
+use Rattle.tko_keys.specs.KeysState.{awaited_servers}
 use Rattle.tko_keys.specs.KeysState.{first_send}
 use Rattle.tko_keys.specs.declared.step.KeyStep.{KeyStep}
 use Rattle.tko_keys.specs.declared.step.KeyStep.TheVariants as step
@@ -88,7 +89,7 @@ module _ {H T C : Type 0} (ghosts : PartsGhosts H (List ℕ) T C) where
   pub record HasKeyCall (went : Went) (old new : KeysOver H T C) : Type 0 where
     pub done : List Interaction
     pub act : DoesForKeys old.1.config old done new
-    pub asks : IsAsking (server_asked_in went) (awaited old.0) (awaited new.0)
+    pub asks : IsAsking (server_asked_in went) (awaited_servers old.0) (awaited_servers new.0)
     pub left : AreKeysLeft went old new
 
   -- the first key that something came for was taken on
@@ -120,5 +121,5 @@ module _ {H T C : Type 0} (ghosts : PartsGhosts H (List ℕ) T C) where
     pub calls : List (List Interaction)
     pub gains : Gains (DoesForKeys old.1.config) old
         ((came_by result old.0.slots send ++ then) ∷ calls) new
-    pub takes : TakesAt server None (awaited old.0) (awaited new.0)
+    pub takes : TakesAt server None (awaited_servers old.0) (awaited_servers new.0)
     pub ready : AreSettled old.1.config new.0

@@ -147,7 +147,7 @@ fn stop_session<R: IoRuntime, H: Health, T: Trails, C>(
     requires awaits { IsAwaiting session.old.work }
     ensures dropped { session.new ≡ dropped session.old }
     ensures noted { (it : SentKey) → session.old.work ≡ Awaits it
-        → parts.new ≡ with_noted it.waiting.attempts parts.old }
+        → parts.new ≡ with_noted it.awaited.attempts parts.old }
     ensures stays { HasStayed H.servers parts.old parts.new }
 {
     let dropped = session.stop(tko_links::ExchangeNoMemory { sent: false });

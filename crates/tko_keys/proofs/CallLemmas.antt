@@ -124,7 +124,7 @@ module _ {config : Configuration} {old new : KeysState} (ready : AreUnderWay con
         came = record {
           each = λ k d within.
               let out = this.each k d within in
-              record { slot = out.slot; waiting = out.waiting; at = out.at; is = out.is };
+              record { slot = out.slot; awaited = out.awaited; at = out.at; is = out.is };
           parts = parts_of old.slots old.unique old.plan.grouping send.places send.line this.by;
           replied = goes_on;
         };

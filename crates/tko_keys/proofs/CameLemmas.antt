@@ -32,12 +32,12 @@ none_past {new = new} at ready past =
 just_one : (m : ℕ) → m ≤ 1 → m ≢ 0 → m ≡ 1
 just_one m most some = omega (arith, most, some)
 
-zero_or_one : (n : ℕ) (waiting : Option Awaited) → n ≤ outs_by waiting
-    → (n ≡ 0) ⊎ ((it : Awaited) × (waiting ≡ Some it) × (n ≡ 1))
+zero_or_one : (n : ℕ) (awaited : Option Awaited) → n ≤ outs_by awaited
+    → (n ≡ 0) ⊎ ((it : Awaited) × (awaited ≡ Some it) × (n ≡ 1))
 zero_or_one n None few = inl (omega (arith, few))
-zero_or_one n (Some waiting) few = elim (eqb_tells n 0) [
+zero_or_one n (Some awaited) few = elim (eqb_tells n 0) [
   | inl eq ↦ inl eq.1
-  | inr ne ↦ inr (waiting, refl, just_one n few ne.1)
+  | inr ne ↦ inr (awaited, refl, just_one n few ne.1)
 ]
 
 module _ {config : Configuration} {request : Request} {old new : KeysState}
@@ -47,9 +47,9 @@ module _ {config : Configuration} {request : Request} {old new : KeysState}
       → new.left ≡ old.left → new.unique ≡ old.unique → new.plan ≡ old.plan → new.lost ≡ old.lost
       → old.came.places ≡ [] → All (MayStand old.plan.grouping) more
       → ((at : ℕ) → count_at at new.came.places ≡ 0 → own_of at more ≡ [])
-      → ((at : ℕ) (slot : KeySlot) (waiting : Awaited) → count_at at new.came.places ≡ 1
-      → slice_get old.slots at ≡ Some slot → slot.waiting ≡ Some waiting
-      → ComesTo (part_for_key new.came (key_of slot)) new.came.reply waiting slot (own_of at more))
+      → ((at : ℕ) (slot : KeySlot) (awaited : Awaited) → count_at at new.came.places ≡ 1
+      → slice_get old.slots at ≡ Some slot → slot.awaited ≡ Some awaited
+      → ComesTo (part_for_key new.came (key_of slot)) new.came.reply awaited slot (own_of at more))
       → KeysSoFar config request new (done ++ flat_map interactions_of more)
   came_on more ready slots left unique plan lost none may others mine =
       let here_before : (at : ℕ) → is_to_take at old.came ≡ false =
@@ -70,26 +70,26 @@ module _ {config : Configuration} {request : Request} {old new : KeysState}
         each = λ at key slot has is.
             let before : slice_get old.slots at ≡ Some slot =
             ap (λ ss. slice_get ss at) (sym slots) ∙ is in
-            let was : IsSlotAt config request key old.came false slot.waiting old.lost slot
+            let was : IsSlotAt config request key old.came false slot.awaited old.lost slot
             (own_of at s.placed) =
-            subst (λ b. IsSlotAt config request key old.came b slot.waiting old.lost slot
+            subst (λ b. IsSlotAt config request key old.came b slot.awaited old.lost slot
             (own_of at s.placed)) (here_before at) (s.each at key slot has before) in
-            let few : count_at at new.came.places ≤ outs_by slot.waiting =
+            let few : count_at at new.came.places ≤ outs_by slot.awaited =
             subst (λ n. count_at at new.came.places ≤ n) (ap outs_in is) (at_most_one at ready) in
-            elim (zero_or_one (count_at at new.came.places) slot.waiting few) [
+            elim (zero_or_one (count_at at new.came.places) slot.awaited few) [
               | inl zero_it ↦
                   let gone : is_to_take at new.came ≡ false = any_none at new.came.places zero_it in
                   let own : own_of at (s.placed ++ more) ≡ own_of at s.placed =
                   own_more s.placed more at
                   ∙ ap (λ xs. own_of at s.placed ++ xs) (others at zero_it)
                   ∙ append-nil (own_of at s.placed) in
-                  subst (λ b. IsSlotAt config request key new.came b slot.waiting new.lost slot
+                  subst (λ b. IsSlotAt config request key new.came b slot.awaited new.lost slot
                   (own_of at (s.placed ++ more))) (sym gone)
-                  (subst (IsSlotAt config request key new.came false slot.waiting new.lost slot)
+                  (subst (IsSlotAt config request key new.came false slot.awaited new.lost slot)
                   (sym own)
-                  (subst (λ l. IsSlotAt config request key new.came false slot.waiting l slot
+                  (subst (λ l. IsSlotAt config request key new.came false slot.awaited l slot
                   (own_of at s.placed)) (sym lost)
-                  (untaken config request old.came new.came slot.waiting old.lost key slot
+                  (untaken config request old.came new.came slot.awaited old.lost key slot
                   (own_of at s.placed) was)))
               | inr one_it ↦
                   let there : is_to_take at new.came ≡ true =
@@ -106,7 +106,7 @@ module _ {config : Configuration} {request : Request} {old new : KeysState}
                     comes = mine at slot one_it.0 one_it.2 before one_it.1;
                     are = own_more s.placed more at;
                   } in
-                  subst (λ b. IsSlotAt config request key new.came b slot.waiting new.lost slot
+                  subst (λ b. IsSlotAt config request key new.came b slot.awaited new.lost slot
                   (own_of at (s.placed ++ more))) (sym there)
                   (subst (λ w. IsSlotAt config request key new.came true w new.lost slot
                   (own_of at (s.placed ++ more))) (sym one_it.1) came)

@@ -127,7 +127,7 @@ sent_within servers server {state} config ready same some =
     let due = sent.each 0 0 (some_place state.plan.grouping state.unique state.slots send.places
     send.line sent.by) in
     let out = due.is.sent.out in
-    let below : due.waiting.server < length config.addresses =
-    subst (λ n. n < length config.addresses) (sym out.awaited.server)
-    (out.within (length due.waiting.attempts) 0 out.awaited.tried.shorter) in
+    let below : due.awaited.server < length config.addresses =
+    subst (λ n. n < length config.addresses) (sym out.awaits.server)
+    (out.within (length due.awaited.attempts) 0 out.awaits.tried.shorter) in
     omega (arith, same, due.server, first.meets, below)

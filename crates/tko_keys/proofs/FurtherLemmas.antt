@@ -16,7 +16,7 @@ use Rattle.tko_reply.specs.Interactions.{Interaction}
 use Rattle.tko_reply.proofs.AnsweringLemmas.{request_for_one}
 use Rattle.tko_keys.specs.declared.step.KeyStep.{KeyStep}
 use Rattle.tko_keys.specs.AtOnce.{ArePlaced, own_of}
-use Rattle.tko_keys.specs.KeysSoFar.{IsKeyCame, IsSlotAt, IsWaitingAt, KeysSoFar, is_to_take}
+use Rattle.tko_keys.specs.KeysSoFar.{IsAwaitedAt, IsKeyCame, IsSlotAt, KeysSoFar, is_to_take}
 use Rattle.tko_keys.specs.KeysState.{KeySlot, KeysCame, KeysState}
 use Rattle.tko_keys.specs.Lines.{key_of, part_for_key}
 use Rattle.tko_keys.specs.SlotCalls.{IsLeftForOthers}
@@ -37,7 +37,7 @@ pub one_further : {config : Configuration} {request : Request} {old new : KeysSt
     → LostMore old.lost new.lost
     → CameStays config request old.slots place old.came new.came
     → ((key : List ℕ) → slice_get begun place ≡ Some key
-    → IsSlotAt config request key new.came false after.waiting new.lost after
+    → IsSlotAt config request key new.came false after.awaited new.lost after
     (own_of place s.placed ++ adds))
     → KeysSoFar config request new (done ++ adds)
 one_further {config} {request} {old} {new} {done} {place} {after} begun adds s on whole all longer
@@ -61,36 +61,36 @@ one_further {config} {request} {old} {new} {done} {place} {after} begun adds s o
             let this : slot ≡ after =
             same_Some slot after (sym is ∙ ap (slice_get new.slots) eq.1 ∙ on.changed.at) in
             let here : IsSlotAt config request key new.came
-            (is_to_take place new.came) after.waiting new.lost after
+            (is_to_take place new.came) after.awaited new.lost after
             (own_of place s.placed ++ adds) =
-            subst (λ b. IsSlotAt config request key new.came b after.waiting new.lost after
+            subst (λ b. IsSlotAt config request key new.came b after.awaited new.lost after
             (own_of place s.placed ++ adds)) (sym gone)
             (now key (ap (slice_get begun) (sym eq.1) ∙ has)) in
             let there : IsSlotAt config request key new.came
-            (is_to_take place new.came) after.waiting new.lost after
+            (is_to_take place new.came) after.awaited new.lost after
             (own_of place (s.placed ++ all_alone place adds)) =
             subst (IsSlotAt config request key new.came
-            (is_to_take place new.came) after.waiting new.lost after)
+            (is_to_take place new.came) after.awaited new.lost after)
             (sym (own_here s.placed place adds)) here in
             let at_this : IsSlotAt config request key new.came
-            (is_to_take at new.came) after.waiting new.lost after
+            (is_to_take at new.came) after.awaited new.lost after
             (own_of at (s.placed ++ all_alone place adds)) =
             subst (λ n. IsSlotAt config request key new.came
-            (is_to_take n new.came) after.waiting new.lost after
+            (is_to_take n new.came) after.awaited new.lost after
             (own_of n (s.placed ++ all_alone place adds))) (sym eq.1) there in
             subst (λ (k : KeySlot). IsSlotAt config request key new.came
-            (is_to_take at new.came) k.waiting new.lost k
+            (is_to_take at new.came) k.awaited new.lost k
             (own_of at (s.placed ++ all_alone place adds))) (sym this) at_this
         | inr ne ↦
             let before : slice_get old.slots at ≡ Some slot =
             sym (on.changed.others at ne.1) ∙ is in
             let was = s.each at key slot (sym (same at ne.1) ∙ has) before in
             subst (IsSlotAt config request key new.came
-            (is_to_take at new.came) slot.waiting new.lost slot)
+            (is_to_take at new.came) slot.awaited new.lost slot)
             (sym (own_there s.placed place at adds ne.1))
-            (stays at key slot slot.waiting new.lost (own_of at s.placed) ne.1 before
+            (stays at key slot slot.awaited new.lost (own_of at s.placed) ne.1 before
             (lost_on config request key old.came (is_to_take at old.came) slot
-            (own_of at s.placed) slot.waiting old.lost new.lost lost was))
+            (own_of at s.placed) slot.awaited old.lost new.lost lost was))
       ];
     }
 
@@ -138,7 +138,7 @@ module _ {config : Configuration} {request : Request} {old new : KeysState}
       → new.left ≡ left → new.unique ≡ old.unique → new.slots ≡ old.slots ++ slot ∷ []
       → new.came ≡ old.came → LostMore old.lost new.lost
       → KeysStep config old new (length old.slots) slot said
-      → IsSlotAt config request key new.came false slot.waiting new.lost slot adds
+      → IsSlotAt config request key new.came false slot.awaited new.lost slot adds
       → KeysSoFar config request new (done ++ adds)
   pushed_on {slot} key left adds next left' unique slots came lost on is =
       one_further (s.begun ++ key ∷ []) adds s on (more_begun s new key left next left' unique)
@@ -152,26 +152,26 @@ module _ {config : Configuration} {request : Request} {old new : KeysState}
       (omega (arith, ap length slots, length-append old.slots (slot ∷ [])))
       (λ other apart. get_not_end s.begun key other (λ e. apart (e ∙ s.all)))
       lost (same_stays config request old.slots (length old.slots) old.came new.came came)
-      (λ other has. subst (λ k. IsSlotAt config request k new.came false slot.waiting new.lost slot
+      (λ other has. subst (λ k. IsSlotAt config request k new.came false slot.awaited new.lost slot
       (own_of (length old.slots) s.placed ++ adds)) (key_behind s key other has)
-      (subst (λ ds. IsSlotAt config request key new.came false slot.waiting new.lost slot
+      (subst (λ ds. IsSlotAt config request key new.came false slot.awaited new.lost slot
       (ds ++ adds)) (sym (nothing_yet s)) is))
 
   -- a key that something came for came further
   pub set_on : {place : ℕ} {after : KeySlot} {said : KeyStep} (places : List ℕ) (slot : KeySlot)
-      (waiting : Awaited) (left : KeysCame) (adds : List Interaction)
+      (awaited : Awaited) (left : KeysCame) (adds : List Interaction)
       → old.came.places ≡ place ∷ places
-      → slice_get old.slots place ≡ Some slot → slot.waiting ≡ Some waiting
+      → slice_get old.slots place ≡ Some slot → slot.awaited ≡ Some awaited
       → IsLeftForOthers (key_of slot) (record old.came { places = places }) left → new.came ≡ left
       → new.left ≡ old.left → new.unique ≡ old.unique → new.slots ≡ slice_set old.slots place after
       → LostMore old.lost new.lost
       → KeysStep config old new place after said
       → ((key : List ℕ) (was : List Interaction)
       → IsKeyCame config request key
-      (part_for_key old.came (key_of slot)) old.came.reply waiting slot was
-      → IsSlotAt config request key new.came false after.waiting new.lost after (was ++ adds))
+      (part_for_key old.came (key_of slot)) old.came.reply awaited slot was
+      → IsSlotAt config request key new.came false after.awaited new.lost after (was ++ adds))
       → KeysSoFar config request new (done ++ adds)
-  set_on {place} {after} places slot waiting left adds first at out leaves came left' unique slots
+  set_on {place} {after} places slot awaited left adds first at out leaves came left' unique slots
       lost on now =
       one_further s.begun adds s on
       (s.whole ∙ ap (λ ks. retrieval (s.begun ++ ks) old.unique) (sym left')
@@ -183,7 +183,7 @@ module _ {config : Configuration} {request : Request} {old new : KeysState}
       (left_stays config request old.slots place places slot old.came left
       first at s.ready.came.parts leaves))
       (λ key has. now key (own_of place s.placed)
-      (subst (λ b. IsWaitingAt config request key old.came b waiting slot (own_of place s.placed))
+      (subst (λ b. IsAwaitedAt config request key old.came b awaited slot (own_of place s.placed))
       (first_here old.came place places first)
       (subst (λ w. IsSlotAt config request key old.came (is_to_take place old.came) w old.lost slot
       (own_of place s.placed)) out (s.each place key slot has at))))

@@ -55,8 +55,8 @@ glued was before adds last front told calls one is came_is are =
 -- all calls of a key that something came for
 abbrev pub all_calls : KeySlot → Awaited → Outcome → Option Reply → List RoutedCall
     → List RoutedCall → List RoutedCall
-all_calls slot waiting part reply before calls =
-    before ++ came waiting.server slot.key.request (Ok part) ∷ (told_of waiting part reply ++ calls)
+all_calls slot awaited part reply before calls =
+    before ++ came awaited.server slot.key.request (Ok part) ∷ (told_of awaited part reply ++ calls)
 
 module _ {config : Configuration} (request : Request) (key : List ℕ) where
   -- a key was begun by its request alone
@@ -70,15 +70,15 @@ module _ {config : Configuration} (request : Request) (key : List ℕ) where
 
   -- what came of it was recorded
   pub taken_goes : {part : Outcome} {more : List RoutedCall} {said : KeyStep}
-      {was : List Interaction} {waiting : Awaited} (slot after : KeySlot)
-      (it : SlotTaken config part slot more said after) → it.waiting ≡ waiting
-      → (out : IsKeyOut config request key waiting slot was)
+      {was : List Interaction} {awaited : Awaited} (slot after : KeySlot)
+      (it : SlotTaken config part slot more said after) → it.awaited ≡ awaited
+      → (out : IsKeyOut config request key awaited slot was)
       → Goes (alone_course config request key after.targets)
-      (out.calls ++ came waiting.server slot.key.request (Ok part) ∷ more) [] it.at after.key
+      (out.calls ++ came awaited.server slot.key.request (Ok part) ∷ more) [] it.at after.key
       after.outbox
-  taken_goes {part} {more} {waiting = waiting} slot after it same_waiting out =
+  taken_goes {part} {more} {awaited = awaited} slot after it same_awaited out =
       let original = without_noreply (request_for request key) in
-      let all = out.calls ++ came waiting.server slot.key.request (Ok part) ∷ more in
+      let all = out.calls ++ came awaited.server slot.key.request (Ok part) ∷ more in
       let Course_of : List ℕ → ReplyPart → Course =
       λ ts kind. record {
         targets = ts;
@@ -86,22 +86,22 @@ module _ {config : Configuration} (request : Request) (key : List ℕ) where
         share = kind;
       } in
       let form : slot.key.request ≡ form_at config.failover_exptime original
-      (length it.waiting.attempts) =
+      (length it.awaited.attempts) =
       ap (λ (o : OneKey). o.request) out.alone
       ∙ ap (λ (w : Awaited). form_at config.failover_exptime original (length w.attempts))
-      (sym same_waiting) in
+      (sym same_awaited) in
       let found = subst (λ (w : Awaited). FindsUp
       (form_at config.failover_exptime original) out.calls w.attempts w.server)
-      (sym same_waiting) out.found in
+      (sym same_awaited) out.found in
       let first : Goes (Course_of slot.targets slot.key.share)
-      (out.calls ++ came it.waiting.server slot.key.request (Ok part) ∷ more) slot.outbox it.at
+      (out.calls ++ came it.awaited.server slot.key.request (Ok part) ∷ more) slot.outbox it.at
       after.key after.outbox =
       it.goes original out.calls form found in
       let goes : Goes (Course_of slot.targets slot.key.share) all slot.outbox it.at after.key
       after.outbox =
       subst (λ (w : Awaited). Goes (Course_of slot.targets slot.key.share)
       (out.calls ++ came w.server slot.key.request (Ok part) ∷ more) slot.outbox it.at after.key
-      after.outbox) same_waiting first in
+      after.outbox) same_awaited first in
       subst (λ ts. Goes (Course_of ts (share.Joined 0 [])) all [] it.at after.key after.outbox)
       (sym it.same)
       (subst (λ kind. Goes (Course_of slot.targets kind) all [] it.at after.key after.outbox)
@@ -141,7 +141,7 @@ lost_so_far {config} {request} {old} {new} {done} s is =
       placed = s.placed;
       are_placed = s.are_placed;
       each = λ place key slot has at. slot_lost config request key old.came _ slot
-          (own_of place s.placed) slot.waiting old.lost (s.each place key slot has at);
+          (own_of place s.placed) slot.awaited old.lost (s.each place key slot has at);
     })
 
 -- memory ran out at a key that is begun
@@ -161,22 +161,22 @@ key_over {config} {request} {key} {calls} {attempts} unique same (cut.tried ends
 -- the key of a place was dropped
 pub dropped_over : (config : Configuration) (request : Request) (old : KeysState) {places : List ℕ}
     {slot after : KeySlot} {left : KeysCame} {calls : List RoutedCall} {attempts : List Attempt}
-    {adds was : List Interaction} (key : List ℕ) (waiting : Awaited) → slot.waiting ≡ Some waiting
+    {adds was : List Interaction} (key : List ℕ) (awaited : Awaited) → slot.awaited ≡ Some awaited
     → PartDropped config (others_of places old.came) slot calls attempts left after
     → adds ≡ map Made calls ++ Noted attempts ∷ []
     → IsKeyCame config request key
-    (part_for_key old.came (key_of slot)) old.came.reply waiting slot was
+    (part_for_key old.came (key_of slot)) old.came.reply awaited slot was
     → IsKeyOver config request key (was ++ adds)
 dropped_over config request old {slot = slot} {calls = calls} {attempts} {adds}
-    {was} key waiting out (parted.in_call part other is_part out' dropped leaves) are here =
-    let same : other ≡ waiting = same_Some other waiting (sym out' ∙ out) in
-    let inner : dropped.waiting ≡ waiting =
-    same_Some dropped.waiting waiting (sym dropped.out ∙ out) in
-    let comes : ComesTo (Some part) old.came.reply waiting slot here.adds =
-    subst (λ p. ComesTo p old.came.reply waiting slot here.adds) is_part here.comes in
+    {was} key awaited out (parted.in_call part other is_part out' dropped leaves) are here =
+    let same : other ≡ awaited = same_Some other awaited (sym out' ∙ out) in
+    let inner : dropped.awaited ≡ awaited =
+    same_Some dropped.awaited awaited (sym dropped.out ∙ out) in
+    let comes : ComesTo (Some part) old.came.reply awaited slot here.adds =
+    subst (λ p. ComesTo p old.came.reply awaited slot here.adds) is_part here.comes in
     let original = without_noreply (request_for request key) in
     let form : slot.key.request ≡ form_at config.failover_exptime original
-    (length dropped.waiting.attempts) =
+    (length dropped.awaited.attempts) =
     ap (λ (o : OneKey). o.request) here.out.alone
     ∙ ap (λ (w : Awaited). form_at config.failover_exptime original (length w.attempts))
     (sym inner) in
@@ -184,46 +184,46 @@ dropped_over config request old {slot = slot} {calls = calls} {attempts} {adds}
     (form_at config.failover_exptime original) here.out.calls w.attempts w.server)
     (sym inner) here.out.found in
     let first : EndsBy slot.targets (form_at config.failover_exptime original)
-    (here.out.calls ++ came dropped.waiting.server slot.key.request
+    (here.out.calls ++ came dropped.awaited.server slot.key.request
     (Ok part) ∷ (told_of other part old.came.reply ++ calls)) attempts =
     dropped.lost original here.out.calls form found in
     let ends : EndsBy slot.targets (form_in config (request_for request key))
-    (all_calls slot waiting part old.came.reply here.out.calls calls) attempts =
+    (all_calls slot awaited part old.came.reply here.out.calls calls) attempts =
     subst (λ (w : Awaited). EndsBy slot.targets (form_at config.failover_exptime original)
-    (here.out.calls ++ came waiting.server slot.key.request
+    (here.out.calls ++ came awaited.server slot.key.request
     (Ok part) ∷ (told_of w part old.came.reply ++ calls)) attempts) same
     (subst (λ (w : Awaited). EndsBy slot.targets (form_at config.failover_exptime original)
     (here.out.calls ++ came w.server slot.key.request
     (Ok part) ∷ (told_of other part old.came.reply ++ calls)) attempts) inner first) in
     ends_noted config request key
-    (all_calls slot waiting part old.came.reply here.out.calls calls) attempts ends
+    (all_calls slot awaited part old.came.reply here.out.calls calls) attempts ends
     here.out.aims
     (glued was here.before adds (Noted attempts ∷ []) here.out.calls
-    (told_of waiting part old.came.reply) calls _ here.out.are
+    (told_of awaited part old.came.reply) calls _ here.out.are
     (here.are ∙ ap (λ xs. here.before ++ xs) comes) are)
 dropped_over config request old {slot = slot} {calls = calls} {attempts} {adds}
-    {was} key waiting out (parted.before other out' none tried same gone) are here =
-    let this : other ≡ waiting = same_Some other waiting (sym out' ∙ out) in
-    let last : adds ≡ Noted waiting.attempts ∷ [] =
+    {was} key awaited out (parted.before other out' none tried same gone) are here =
+    let this : other ≡ awaited = same_Some other awaited (sym out' ∙ out) in
+    let last : adds ≡ Noted awaited.attempts ∷ [] =
     are ∙ ap (λ cs. map Made cs ++ Noted attempts ∷ []) none
     ∙ ap (λ xs. Noted xs ∷ []) (tried ∙ ap (λ (w : Awaited). w.attempts) this) in
-    came_over config request key slot waiting
+    came_over config request key slot awaited
     (part_for_key old.came (key_of slot)) old.came.reply was here (ap (λ xs. was ++ xs) last)
 
 pub waits_at : {config : Configuration} {came : KeysCame} {slot after : KeySlot} {left : KeysCame}
     {calls : List RoutedCall} {attempts : List Attempt}
     → PartDropped config came slot calls attempts left after
-    → (waiting : Awaited) × (slot.waiting ≡ Some waiting)
-waits_at (parted.in_call part waiting is_part out dropped leaves) = (waiting, out)
-waits_at (parted.before waiting out none tried same gone) = (waiting, out)
+    → (awaited : Awaited) × (slot.awaited ≡ Some awaited)
+waits_at (parted.in_call part awaited is_part out dropped leaves) = (awaited, out)
+waits_at (parted.before awaited out none tried same gone) = (awaited, out)
 
 pub leaves_at : {config : Configuration} (old : KeysState) {places : List ℕ} {slot after : KeySlot}
     {left : KeysCame} {calls : List RoutedCall} {attempts : List Attempt}
     → PartDropped config (others_of places old.came) slot calls attempts left after
-    → IsLeftForOthers (key_of slot) (others_of places old.came) left × (after.waiting ≡ None)
-leaves_at old (parted.in_call part waiting is_part out dropped leaves) = (leaves, dropped.ended)
-leaves_at old {places} {slot} (parted.before waiting out none tried same gone) = (
+    → IsLeftForOthers (key_of slot) (others_of places old.came) left × (after.awaited ≡ None)
+leaves_at old (parted.in_call part awaited is_part out dropped leaves) = (leaves, dropped.ended)
+leaves_at old {places} {slot} (parted.before awaited out none tried same gone) = (
   subst (IsLeftForOthers (key_of slot) (others_of places old.came)) (sym same)
       (record { same = refl; goes_on = λ is. is; others = λ shared other apart. refl }),
-  ap (λ (k : KeySlot). k.waiting) gone,
+  ap (λ (k : KeySlot). k.awaited) gone,
 )

@@ -75,7 +75,7 @@ module _ {config : Configuration} {request : Request} {old new : KeysState}
       let lost_now : new.lost ≡ true = ap (λ (k : KeysState). k.lost) is in
       let over_it : IsKeyOver config request key adds =
       key_over old.unique (asked_alone s key) lost are in
-      let at : IsSlotAt config request key new.came false slot.waiting new.lost slot adds =
+      let at : IsSlotAt config request key new.came false slot.awaited new.lost slot adds =
       subst (λ w. IsSlotAt config request key new.came false w new.lost slot adds) (sym ended)
       (subst (λ l. IsSlotAt config request key new.came false None l slot adds)
       (sym lost_now) over_it) in
@@ -90,26 +90,26 @@ module _ {config : Configuration} {request : Request} {old new : KeysState}
   on_took {calls} {said} {adds} it are =
       let part = it.taken in
       let taken = part.taken in
-      let same : taken.waiting ≡ part.waiting =
-      same_Some taken.waiting part.waiting (sym taken.out ∙ part.out) in
-      set_on s it.places it.slot part.waiting it.left adds it.first it.was part.out part.leaves
+      let same : taken.awaited ≡ part.awaited =
+      same_Some taken.awaited part.awaited (sym taken.out ∙ part.out) in
+      set_on s it.places it.slot part.awaited it.left adds it.first it.was part.out part.leaves
       (ap (λ (k : KeysState). k.came) it.state)
       (ap (λ (k : KeysState). k.left) it.state) (ap (λ (k : KeysState). k.unique) it.state)
       (ap (λ (k : KeysState). k.slots) it.state) (inl (ap (λ (k : KeysState). k.lost) it.state))
       (taken_step s.ready it)
       (λ key was here.
-      let comes : ComesTo (Some part.part) old.came.reply part.waiting it.slot here.adds =
-      subst (λ p. ComesTo p old.came.reply part.waiting it.slot here.adds) part.is_part
+      let comes : ComesTo (Some part.part) old.came.reply part.awaited it.slot here.adds =
+      subst (λ p. ComesTo p old.came.reply part.awaited it.slot here.adds) part.is_part
       here.comes in
       let last : adds ≡ map Made calls ++ key_record (key_step taken.at) =
       are ∙ ap (λ x. map Made calls ++ key_record x) taken.says in
       subst (λ w. IsSlotAt config request key new.came false w new.lost it.after (was ++ adds))
       (sym taken.waits)
       (goes_at config request key new.came taken.at it.after
-      (all_calls it.slot part.waiting part.part old.came.reply here.out.calls calls) new.lost
+      (all_calls it.slot part.awaited part.part old.came.reply here.out.calls calls) new.lost
       (taken_goes request key it.slot it.after taken same here.out) (taken.same ∙ here.out.aims)
       (glued was here.before adds (key_record (key_step taken.at)) here.out.calls
-      (told_of part.waiting part.part old.came.reply) calls _ here.out.are
+      (told_of part.awaited part.part old.came.reply) calls _ here.out.are
       (here.are ∙ ap (λ xs. here.before ++ xs) comes) last)))
 
   pub on_took_unrecorded : {calls : List RoutedCall} {trail : List Attempt} {mid : KeysState}
@@ -119,25 +119,25 @@ module _ {config : Configuration} {request : Request} {old new : KeysState}
   on_took_unrecorded {calls} {trail} {mid} {adds} it gone are =
       let part = it.taken in
       let taken = part.taken in
-      let same : taken.waiting ≡ part.waiting =
-      same_Some taken.waiting part.waiting (sym taken.out ∙ part.out) in
+      let same : taken.awaited ≡ part.awaited =
+      same_Some taken.awaited part.awaited (sym taken.out ∙ part.out) in
       subst (λ (k : KeysState). KeysSoFar config request k (done ++ adds)) (sym gone)
-      (set_on {new = with_loss mid} s it.places it.slot part.waiting it.left adds it.first it.was
+      (set_on {new = with_loss mid} s it.places it.slot part.awaited it.left adds it.first it.was
       part.out part.leaves (ap (λ (k : KeysState). k.came) it.state)
       (ap (λ (k : KeysState). k.left) it.state) (ap (λ (k : KeysState). k.unique) it.state)
       (ap (λ (k : KeysState). k.slots) it.state) (inr refl) (lost_step (taken_step s.ready it))
       (λ key was here.
-      let comes : ComesTo (Some part.part) old.came.reply part.waiting it.slot here.adds =
-      subst (λ p. ComesTo p old.came.reply part.waiting it.slot here.adds) part.is_part
+      let comes : ComesTo (Some part.part) old.came.reply part.awaited it.slot here.adds =
+      subst (λ p. ComesTo p old.came.reply part.awaited it.slot here.adds) part.is_part
       here.comes in
       subst (λ w. IsSlotAt config request key mid.came false w true it.after (was ++ adds))
       (sym taken.waits)
       (goes_unrecorded config request key mid.came taken.at it.after
-      (all_calls it.slot part.waiting part.part old.came.reply here.out.calls calls) trail
+      (all_calls it.slot part.awaited part.part old.came.reply here.out.calls calls) trail
       (taken_goes request key it.slot it.after taken same here.out)
       (taken.same ∙ here.out.aims) taken.says
       (glued was here.before adds (Noted trail ∷ []) here.out.calls
-      (told_of part.waiting part.part old.came.reply) calls _ here.out.are
+      (told_of part.awaited part.part old.came.reply) calls _ here.out.are
       (here.are ∙ ap (λ xs. here.before ++ xs) comes) are))))
 
   pub on_take_lost : {calls : List RoutedCall} {attempts : List Attempt} {adds : List Interaction}

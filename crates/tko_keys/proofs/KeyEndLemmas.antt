@@ -55,7 +55,7 @@ module _ {H : Type 0} {steps : H → HealthItem → H → Type 0} {health health
       → state ≡ old → AreUnderWay config state → MayBegin state
       → TakesNext state.unique state.left request left'
       → GoesOn steps health (λ calls. KeyLost config request calls attempts) health'
-      → slot.waiting ≡ None → slots' ≡ state.slots ++ slot ∷ [] → due' ≡ state.due
+      → slot.awaited ≡ None → slots' ≡ state.slots ++ slot ∷ [] → due' ≡ state.due
       → sends' ≡ state.sends
       → GoesOn steps health (λ calls. NextLost config old calls attempts
       (record state { left = left'; slots = slots'; due = due'; sends = sends'; lost = true }))
@@ -90,9 +90,9 @@ pub record AtCame (config : Configuration) (state : KeysState) (place : ℕ)
     (places : List ℕ) : Type 0 where
   pub first : state.came.places ≡ place ∷ places
   pub slot : KeySlot
-  pub waiting : Awaited
+  pub awaited : Awaited
   pub was : slice_get state.slots place ≡ Some slot
-  pub is : IsSlotOut config slot waiting
+  pub is : IsSlotOut config slot awaited
 
 pub at_came : {config : Configuration} {state : KeysState} {place : ℕ} {places : List ℕ}
     → AreUnderWay config state → state.came.places ≡ place ∷ places
@@ -100,7 +100,7 @@ pub at_came : {config : Configuration} {state : KeysState} {place : ℕ} {places
 at_came {config} {state} {place} {places} ready first =
     let out = All-head (IsOutAt config state.slots) place places
     (subst (All (IsOutAt config state.slots)) first ready.came.each) in
-    record { first = first; slot = out.slot; waiting = out.waiting; was = out.at; is = out.is }
+    record { first = first; slot = out.slot; awaited = out.awaited; was = out.at; is = out.is }
 
 module _ {config : Configuration} {state : KeysState} {place : ℕ} {places : List ℕ}
     (at : AtCame config state place places) where
@@ -114,7 +114,7 @@ module _ {config : Configuration} {state : KeysState} {place : ℕ} {places : Li
   pub slot_out : {read : KeySlot} → read ≡ slice_index_or state.slots place read
       → IsAnyOut config read
   slot_out {read} is = subst (IsAnyOut config) (same_slot is)
-      (record { waiting = at.waiting; is = at.is })
+      (record { awaited = at.awaited; is = at.is })
 
   pub ahead_set : {slots' : List KeySlot} {ahead : ℕ} (now : KeySlot)
       → ahead ≡ values_ahead state.slots → slots' ≡ slice_set state.slots place now
@@ -123,7 +123,7 @@ module _ {config : Configuration} {state : KeysState} {place : ℕ} {places : Li
       subst (λ ss. ahead ≤ values_ahead ss) (sym set)
       (subst (λ n. n ≤ values_ahead (slice_set state.slots place now)) (sym is)
       (ahead_replaced has_values state.slots place at.slot now at.was
-      (out_no_values at.slot at.waiting at.is.out)))
+      (out_no_values at.slot at.awaited at.is.out)))
 
 module _ {H : Type 0} {steps : H → HealthItem → H → Type 0} {health health' : H}
     {config : Configuration} where

@@ -70,18 +70,18 @@ keys_new config request plan state several some new =
       each = λ place key slot has at. absurd (none-some slot at);
     })
 
-none_by : (waiting : Option Awaited) → outs_by waiting ≡ 0 → waiting ≡ None
+none_by : (awaited : Option Awaited) → outs_by awaited ≡ 0 → awaited ≡ None
 none_by None none = refl
-none_by (Some waiting) none = absurd (omega (arith, none))
+none_by (Some awaited) none = absurd (omega (arith, none))
 
 -- where nothing is under way, no key is out
 over_all : {config : Configuration} {state : KeysState} → AreUnderWay config state
     → places_out state ≡ [] → (place : ℕ) (slot : KeySlot) → slice_get state.slots place ≡ Some slot
-    → slot.waiting ≡ None
+    → slot.awaited ≡ None
 over_all {config} {state} ready none place slot at =
     let count : count_at place (places_out state) ≡ 0 = ap (count_at place) none in
-    let outs : outs_at state.slots place ≡ outs_by slot.waiting = ap outs_in at in
-    none_by slot.waiting (omega (arith, count, outs, ready.once place))
+    let outs : outs_at state.slots place ≡ outs_by slot.awaited = ap outs_in at in
+    none_by slot.awaited (omega (arith, count, outs, ready.once place))
 
 get_beside : {X Y : Type 0} (xs : List X) (ys : List Y) (i : ℕ) (x : X) → length xs ≡ length ys
     → slice_get xs i ≡ Some x → (y : Y) × (slice_get ys i ≡ Some y)
@@ -118,11 +118,11 @@ keys_cut config request state done s complete lost = record {
       (s.each place key slot.0 has slot.1));
 }
 
-failed_none : (waiting : Option Awaited) (kind : ReplyPart) → failed_by waiting kind ≡ true
-    → listed_by waiting kind ≡ false
+failed_none : (awaited : Option Awaited) (kind : ReplyPart) → failed_by awaited kind ≡ true
+    → listed_by awaited kind ≡ false
 failed_none None (share.Whole silent) failed = refl
 failed_none None (share.Joined begin left) failed = absurd (let none : ⊥ = cc failed in none)
-failed_none (Some waiting) kind failed = refl
+failed_none (Some awaited) kind failed = refl
 
 -- no key failed where all got lists of values
 never_failed : {config : Configuration} {state : KeysState} → AreUnderWay config state
@@ -135,7 +135,7 @@ never_failed {config} {state} ready all true is =
     let passes : has_values it.slot ≡ true =
     ap has_values (sym (get_or_from_slice_get state.slots it.place it.slot it.slot it.at))
     ∙ prefix_len_passes has_values state.slots it.place it.slot (omega (arith, within, all)) in
-    absurd (true≢false (sym passes ∙ failed_none it.slot.waiting it.slot.key.share it.is))
+    absurd (true≢false (sym passes ∙ failed_none it.slot.awaited it.slot.key.share it.is))
 
 cons_or_nil : {X : Type 0} (x : X) (xs : List X) → x ∷ xs ≡ [] → ⊥
 cons_or_nil x xs e = cc

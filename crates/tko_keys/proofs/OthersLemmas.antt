@@ -25,15 +25,15 @@ abbrev pub LostMore : Bool → Bool → Type 0
 LostMore old new = (new ≡ old) ⊎ (new ≡ true)
 
 pub lost_on : (config : Configuration) (request : Request) (key : List ℕ) (came : KeysCame)
-    (here : Bool) (slot : KeySlot) (done : List Interaction) (waiting : Option Awaited)
+    (here : Bool) (slot : KeySlot) (done : List Interaction) (awaited : Option Awaited)
     (lost lost' : Bool)
-    → LostMore lost lost' → IsSlotAt config request key came here waiting lost slot done
-    → IsSlotAt config request key came here waiting lost' slot done
-lost_on config request key came here slot done waiting lost lost' (inl same) is =
-    subst (λ l. IsSlotAt config request key came here waiting l slot done) (sym same) is
-lost_on config request key came here slot done waiting lost lost' (inr now) is =
-    subst (λ l. IsSlotAt config request key came here waiting l slot done) (sym now)
-    (slot_lost config request key came here slot done waiting lost is)
+    → LostMore lost lost' → IsSlotAt config request key came here awaited lost slot done
+    → IsSlotAt config request key came here awaited lost' slot done
+lost_on config request key came here slot done awaited lost lost' (inl same) is =
+    subst (λ l. IsSlotAt config request key came here awaited l slot done) (sym same) is
+lost_on config request key came here slot done awaited lost lost' (inr now) is =
+    subst (λ l. IsSlotAt config request key came here awaited l slot done) (sym now)
+    (slot_lost config request key came here slot done awaited lost is)
 
 pub any_none : (at : ℕ) (places : List ℕ) → count_at at places ≡ 0
     → list_any (λ (other : ℕ). other == at) places ≡ false
@@ -61,40 +61,40 @@ any_some at (place ∷ places) one = elim (eqb_tells place at) [
 -- What is said of the keys of other places stays where what came changes so.
 abbrev pub CameStays : Configuration → Request → List KeySlot → ℕ → KeysCame → KeysCame → Type 0
 CameStays config request slots place old new =
-    (at : ℕ) (key : List ℕ) (slot : KeySlot) (waiting : Option Awaited) (lost : Bool)
+    (at : ℕ) (key : List ℕ) (slot : KeySlot) (awaited : Option Awaited) (lost : Bool)
     (done : List Interaction) → at ≢ place → slice_get slots at ≡ Some slot
-    → IsSlotAt config request key old (is_to_take at old) waiting lost slot done
-    → IsSlotAt config request key new (is_to_take at new) waiting lost slot done
+    → IsSlotAt config request key old (is_to_take at old) awaited lost slot done
+    → IsSlotAt config request key new (is_to_take at new) awaited lost slot done
 
 -- nothing is said of what came for a key that nothing came for
 pub untaken : (config : Configuration) (request : Request) (old new : KeysCame)
-    (waiting : Option Awaited) (lost : Bool) (key : List ℕ) (slot : KeySlot)
+    (awaited : Option Awaited) (lost : Bool) (key : List ℕ) (slot : KeySlot)
     (done : List Interaction)
-    → IsSlotAt config request key old false waiting lost slot done
-    → IsSlotAt config request key new false waiting lost slot done
-untaken config request old new (Some waiting) lost key slot done is = is
+    → IsSlotAt config request key old false awaited lost slot done
+    → IsSlotAt config request key new false awaited lost slot done
+untaken config request old new (Some awaited) lost key slot done is = is
 untaken config request old new None false key slot done is = is
 untaken config request old new None true key slot done is = is
 
 -- what came is the same
 pub same_stays : (config : Configuration) (request : Request) (slots : List KeySlot) (place : ℕ)
     (old new : KeysCame) → new ≡ old → CameStays config request slots place old new
-same_stays config request slots place old new same = λ at key slot waiting lost done apart is was.
-    subst (λ (k : KeysCame). IsSlotAt config request key k (is_to_take at k) waiting lost slot done)
+same_stays config request slots place old new same = λ at key slot awaited lost done apart is was.
+    subst (λ (k : KeysCame). IsSlotAt config request key k (is_to_take at k) awaited lost slot done)
     (sym same) was
 
 part_stays : (config : Configuration) (request : Request) (key : List ℕ) (old new : KeysCame)
-    (here : Bool) (slot : KeySlot) (waiting : Option Awaited) (lost : Bool)
+    (here : Bool) (slot : KeySlot) (awaited : Option Awaited) (lost : Bool)
     (done : List Interaction)
     → (here ≡ true → part_for_key new (key_of slot) ≡ part_for_key old (key_of slot))
     → new.reply ≡ old.reply
-    → IsSlotAt config request key old here waiting lost slot done
-    → IsSlotAt config request key new here waiting lost slot done
-part_stays config request key old new true slot (Some waiting) lost done part reply is =
-    subst (λ r. IsKeyCame config request key (part_for_key new (key_of slot)) r waiting slot done)
+    → IsSlotAt config request key old here awaited lost slot done
+    → IsSlotAt config request key new here awaited lost slot done
+part_stays config request key old new true slot (Some awaited) lost done part reply is =
+    subst (λ r. IsKeyCame config request key (part_for_key new (key_of slot)) r awaited slot done)
     (sym reply)
-    (subst (λ p. IsKeyCame config request key p old.reply waiting slot done) (sym (part refl)) is)
-part_stays config request key old new false slot (Some waiting) lost done part reply is = is
+    (subst (λ p. IsKeyCame config request key p old.reply awaited slot done) (sym (part refl)) is)
+part_stays config request key old new false slot (Some awaited) lost done part reply is = is
 part_stays config request key old new here slot None false done part reply is = is
 part_stays config request key old new here slot None true done part reply is = is
 
@@ -144,7 +144,7 @@ pub left_stays : (config : Configuration) (request : Request) (slots : List KeyS
     → IsLeftForOthers (key_of slot) (record old { places = places }) left
     → CameStays config request slots place old left
 left_stays config request slots place places slot old left first at parts leaves =
-    λ other key one waiting lost done apart is was.
+    λ other key one awaited lost done apart is was.
     let now : left.places ≡ places = ap (λ (k : KeysCame). k.places) leaves.same in
     let here : is_to_take other left ≡ is_to_take other old = elim (eqb_tells place other) [
       | inl eq ↦ absurd (apart (sym eq.1))
@@ -157,8 +157,8 @@ left_stays config request slots place places slot old left first at parts leaves
     subst (λ ps. HaveParts old.shared (map (key_at slots) ps)) first parts in
     let same_key : key_at slots place ≡ key_of slot =
     ap (λ (o : Option KeySlot). unwrap_or (option_map key_of o) []) at in
-    part_stays config request key old left (is_to_take other left) one waiting lost done
+    part_stays config request key old left (is_to_take other left) one awaited lost done
     (λ there. part_left old.shared slots place places slot one other old left refl same_key is keys
     leaves (sym (ap (list_any (λ (n : ℕ). n == other)) now) ∙ there))
     (ap (λ (k : KeysCame). k.reply) leaves.same)
-    (subst (λ b. IsSlotAt config request key old b waiting lost one done) (sym here) was)
+    (subst (λ b. IsSlotAt config request key old b awaited lost one done) (sym here) was)

@@ -94,8 +94,8 @@ last_due {state} count it same some len read have =
 pub last_attempts : {state old : KeysState} {it : DueKey} (found : KeySlot) → state ≡ old
     → slice_get state.due (length state.due - 1) ≡ Some it → it.place < length state.slots
     → found ≡ slice_index_or state.slots it.place found
-    → attempts_last old ≡ Some (attempts_of found.waiting)
+    → attempts_last old ≡ Some (attempts_of found.awaited)
 last_attempts {state} {old} {it} found same at within read =
     sym (ap attempts_last same) ∙ ap (option_and_then (attempts_at state.slots)) at
-    ∙ ap (option_map (λ (slot : KeySlot). attempts_of slot.waiting))
+    ∙ ap (option_map (λ (slot : KeySlot). attempts_of slot.awaited))
     (slice_get_read state.slots (length state.slots) it.place found refl within read)

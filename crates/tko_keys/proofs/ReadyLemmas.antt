@@ -23,8 +23,8 @@ use Rattle.tko_keys.proofs.StayLemmas.{came_stays, due_stays, sent_stays}
 -- a key where a call said this of it: it is due, or has ended
 abbrev pub IsSaid : Configuration → KeySlot → KeyStep → Type 0
 IsSaid config after (step.Due server) =
-    (waiting : Awaited) × IsSlotOut config after waiting × (waiting.server ≡ server)
-IsSaid config after (step.Tried trail) = after.waiting ≡ None
+    (awaited : Awaited) × IsSlotOut config after awaited × (awaited.server ≡ server)
+IsSaid config after (step.Tried trail) = after.awaited ≡ None
 
 -- One key came further, whose place this is: the others that are due or under way stay so.
 pub record KeysStep (config : Configuration) (old new : KeysState) (place : ℕ) (after : KeySlot)
@@ -49,8 +49,8 @@ none_or_none false = refl
 
 count_said : (config : Configuration) (after : KeySlot) (at place : ℕ) (said : KeyStep)
     → IsSaid config after said
-    → count_at at (due_places (due_by place said)) ≡ cond (place == at) (outs_by after.waiting) 0
-count_said config after at place (step.Due server) (waiting, out, to) =
+    → count_at at (due_places (due_by place said)) ≡ cond (place == at) (outs_by after.awaited) 0
+count_said config after at place (step.Due server) (awaited, out, to) =
     omega (arith, count_cons at place [], ap (λ n. cond (place == at) n 0) (ap outs_by out.out))
 count_said config after at place (step.Tried trail) ended =
     sym (ap (λ n. cond (place == at) n 0) (ap outs_by ended) ∙ none_or_none (place == at))
@@ -91,7 +91,7 @@ module _ {config : Configuration} {old new : KeysState} {place : ℕ} {after : K
       ∙ ap (λ ss. key_places_in (old.due ++ due_by place said) ss new.came) on.sends
 
   count_now : (at : ℕ) → count_at at (places_out new) ≡ count_at at others + cond (place == at)
-      (outs_by after.waiting) 0
+      (outs_by after.awaited) 0
   count_now at =
       let due : count_at at (due_places
       (old.due ++ due_by place said)) ≡ count_at at (due_places
@@ -110,17 +110,17 @@ module _ {config : Configuration} {old new : KeysState} {place : ℕ} {after : K
   once_here : (at : ℕ) → count_at at (places_out new) ≡ outs_at new.slots at
   once_here at = elim (eqb_tells place at) [
     | inl eq ↦
-        let here : outs_at new.slots at ≡ outs_by after.waiting =
+        let here : outs_at new.slots at ≡ outs_by after.awaited =
         ap (outs_at new.slots) (sym eq.1) ∙ ap outs_in on.changed.at in
-        let more : count_at at (places_out new) ≡ count_at at others + outs_by after.waiting =
-        count_now at ∙ ap (λ b. count_at at others + cond b (outs_by after.waiting) 0) eq.0 in
+        let more : count_at at (places_out new) ≡ count_at at others + outs_by after.awaited =
+        count_now at ∙ ap (λ b. count_at at others + cond b (outs_by after.awaited) 0) eq.0 in
         let none : count_at at others ≡ 0 = ap (λ n. count_at n others) (sym eq.1) ∙ none_other in
         omega (arith, here, more, none)
     | inr ne ↦
         let there : outs_at new.slots at ≡ outs_at old.slots at =
         ap outs_in (on.changed.others at (λ e. ne.1 (sym e))) in
         let more : count_at at (places_out new) ≡ count_at at others + 0 =
-        count_now at ∙ ap (λ b. count_at at others + cond b (outs_by after.waiting) 0) ne.0 in
+        count_now at ∙ ap (λ b. count_at at others + cond b (outs_by after.awaited) 0) ne.0 in
         let split : count_at at (places_out old) ≡ count_at at others + 0 =
         on.split at ∙ ap (λ b. count_at at others + cond b (outs_at old.slots place) 0) ne.0 in
         omega (arith, there, more, split, ready.once at)
@@ -128,9 +128,9 @@ module _ {config : Configuration} {old new : KeysState} {place : ℕ} {after : K
 
   newly_due : (said : KeyStep) → IsSaid config after said
       → All (IsDueAt config new.slots) (due_by place said)
-  newly_due (step.Due server) (waiting, out, to) =
+  newly_due (step.Due server) (awaited, out, to) =
       All-cons (IsDueAt config new.slots) (due_at place server) []
-      (record { slot = after; waiting = waiting; at = on.changed.at; is = out; server = to })
+      (record { slot = after; awaited = awaited; at = on.changed.at; is = out; server = to })
       (All-nil (IsDueAt config new.slots))
   newly_due (step.Tried trail) ended = All-nil (IsDueAt config new.slots)
 

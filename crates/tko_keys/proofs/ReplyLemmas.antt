@@ -30,7 +30,7 @@ finish_ends slots ahead old new (Ok u) is past ends =
 
 -- what the outbox of an ended key holds
 abbrev pub Holds : RoutedKey → KeySlot → Type 0
-Holds one slot = (slot.waiting ≡ None)
+Holds one slot = (slot.awaited ≡ None)
     × Joins 0 [] (answer_of one.trail) [] slot.key.share slot.outbox
 
 -- keys that have ended, each by its own interactions
@@ -68,7 +68,7 @@ holds_cons one routed slot slots first rest (suc place) other at has is = rest p
 -- a key that has ended, by these interactions
 pub record HasEnded (config : Configuration) (request : Request) (key : List ℕ) (slot : KeySlot)
     (done : List Interaction) : Type 0 where
-  pub over : slot.waiting ≡ None
+  pub over : slot.awaited ≡ None
   pub is : IsKeyEnded config request key slot done
 
 pub are_ended : {config : Configuration} {request : Request} (keys : List (List ℕ))

@@ -50,9 +50,9 @@ pub dropped_places : {config : Configuration} {came left : KeysCame} {slot after
     {calls : List RoutedCall} {attempts : List Attempt}
     → PartDropped config came slot calls attempts left after
     → left.places ≡ came.places
-dropped_places (parted.in_call part waiting is_part out dropped leaves) =
+dropped_places (parted.in_call part awaited is_part out dropped leaves) =
     ap (λ (k : KeysCame). k.places) leaves.same
-dropped_places (parted.before waiting out none tried same gone) =
+dropped_places (parted.before awaited out none tried same gone) =
     ap (λ (k : KeysCame). k.places) same
 
 pub out_dropped : (due : List DueKey) (sends : List KeySend) (came left : KeysCame) (place : ℕ)

@@ -31,7 +31,7 @@ says_of : (config : Configuration) (at : Stage) (slot : KeySlot) (one : OneKey) 
     (calls : List RoutedCall) (was : List ℕ)
     → Goes (course_of config slot.targets one original) calls was at slot.key slot.outbox
     → one.share ≡ share.Joined 0 [] → was ≡ [] → AreServers config slot.targets
-    → slot.waiting ≡ wait_at at → IsSaid config slot (key_step at)
+    → slot.awaited ≡ wait_at at → IsSaid config slot (key_step at)
 says_of config (stage.Away clear got) slot one original calls was goes apart empty within waits =
     let sent : IsSent config slot.targets (asking got slot.key) =
     goes_awaits one config original within goes in (
@@ -55,10 +55,10 @@ begun_said {config} {request} {calls} slot it =
 
 pub taken_said : {config : Configuration} {outcome : Outcome} {calls : List RoutedCall}
     {said : KeyStep} (old new : KeySlot) (it : SlotTaken config outcome old calls said new)
-    → IsSlotOut config old it.waiting → IsSaid config new said
+    → IsSlotOut config old it.awaited → IsSaid config new said
 taken_said {config} {outcome} {calls} old new it was =
     let original = was.sent.original in
-    let all = was.sent.calls ++ came it.waiting.server old.key.request (Ok outcome) ∷ calls in
+    let all = was.sent.calls ++ came it.awaited.server old.key.request (Ok outcome) ∷ calls in
     let goes : Goes (course_of config old.targets old.key original) all old.outbox it.at new.key
     new.outbox =
     it.goes original was.sent.calls was.sent.form was.sent.found in
@@ -80,31 +80,31 @@ failed_more slot failed is = failed_by_test (has_failed slot) failed is
 
 module _ {config : Configuration} {old : KeysState} (ready : AreUnderWay config old) where
   -- the key of a place that something came for is out
-  pub out_first : (place : ℕ) (places : List ℕ) (slot : KeySlot) (waiting : Awaited)
+  pub out_first : (place : ℕ) (places : List ℕ) (slot : KeySlot) (awaited : Awaited)
       → old.came.places ≡ place ∷ places → slice_get old.slots place ≡ Some slot
-      → slot.waiting ≡ Some waiting
-      → IsSlotOut config slot waiting
-  out_first place places slot waiting first at is =
+      → slot.awaited ≡ Some awaited
+      → IsSlotOut config slot awaited
+  out_first place places slot awaited first at is =
       let out = All-head (IsOutAt config old.slots) place places
       (subst (All (IsOutAt config old.slots)) first ready.came.each) in
       let same : out.slot ≡ slot = same_Some out.slot slot (sym out.at ∙ at) in
-      let here : IsSlotOut config slot out.waiting =
-      subst (λ (k : KeySlot). IsSlotOut config k out.waiting) same out.is in
-      subst (IsSlotOut config slot) (same_Some out.waiting waiting (sym here.out ∙ is)) here
+      let here : IsSlotOut config slot out.awaited =
+      subst (λ (k : KeySlot). IsSlotOut config k out.awaited) same out.is in
+      subst (IsSlotOut config slot) (same_Some out.awaited awaited (sym here.out ∙ is)) here
 
   pub dropped_facts : {places : List ℕ} {slot after : KeySlot} {left : KeysCame}
       {calls : List RoutedCall} {attempts : List Attempt}
       → PartDropped config (record old.came { places = places }) slot calls attempts left after
-      → (waiting : Awaited) × (slot.waiting ≡ Some waiting)
+      → (awaited : Awaited) × (slot.awaited ≡ Some awaited)
       × (left ≡ record old.came { places = places; outcome = left.outcome }) × CanGoOn left
-      × (after.waiting ≡ None)
-  dropped_facts (calls.in_call part waiting is_part out dropped leaves) =
-      (waiting, out, leaves.same, leaves.goes_on ready.came.replied, dropped.ended)
-  dropped_facts {places} {left = left} (calls.before waiting out none tried same gone) = (
-    waiting,
+      × (after.awaited ≡ None)
+  dropped_facts (calls.in_call part awaited is_part out dropped leaves) =
+      (awaited, out, leaves.same, leaves.goes_on ready.came.replied, dropped.ended)
+  dropped_facts {places} {left = left} (calls.before awaited out none tried same gone) = (
+    awaited,
     out,
     same ∙ ap (λ (o : Option Outcome). record old.came { places = places; outcome = o })
         (sym (ap (λ (k : KeysCame). k.outcome) same)),
     subst CanGoOn (sym same) ready.came.replied,
-    ap (λ (k : KeySlot). k.waiting) gone,
+    ap (λ (k : KeySlot). k.awaited) gone,
   )

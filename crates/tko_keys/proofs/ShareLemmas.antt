@@ -59,28 +59,28 @@ single (place ∷ other ∷ places) one = absurd (omega (arith, one))
 abbrev pub told_to : ℕ → Outcome → Option Reply → List Interaction
 told_to server outcome reply = map Made (map Told (record_of server (op_of outcome) reply))
 
-comes_so : (waiting : Awaited) {request : Request} (server : ℕ) (outcome part : Outcome)
-    (reply : Option Reply) → waiting.server ≡ server → op_of part ≡ op_of outcome
+comes_so : (awaited : Awaited) {request : Request} (server : ℕ) (outcome part : Outcome)
+    (reply : Option Reply) → awaited.server ≡ server → op_of part ≡ op_of outcome
     → Made (came server request (Ok part)) ∷ told_to server outcome reply ≡ Made
-    (came waiting.server request (Ok part)) ∷ map Made (told_of waiting part reply)
-comes_so waiting {request} server outcome part reply to op =
+    (came awaited.server request (Ok part)) ∷ map Made (told_of awaited part reply)
+comes_so awaited {request} server outcome part reply to op =
     ap (λ n. Made (came n request (Ok part)) ∷ told_to n outcome reply) (sym to)
-    ∙ ap (λ o. Made (came waiting.server request (Ok part)) ∷ map Made
-    (map Told (record_of waiting.server o reply))) (sym op)
+    ∙ ap (λ o. Made (came awaited.server request (Ok part)) ∷ map Made
+    (map Told (record_of awaited.server o reply))) (sym op)
 
 module _ {config : Configuration} {request : Request} {old : KeysState} {done : List Interaction}
     (s : KeysSoFar config request old done) (send : KeySend) (none : old.came.places ≡ [])
     (is : IsSentAt config old.plan.grouping old.unique old.slots send) where
   -- the server that the key of a place waits for
-  to_server : (at : ℕ) (slot : KeySlot) (waiting : Awaited) → count_at at send.places ≡ 1
-      → slice_get old.slots at ≡ Some slot → slot.waiting ≡ Some waiting
-      → waiting.server ≡ send.server
-  to_server at slot waiting one there out =
+  to_server : (at : ℕ) (slot : KeySlot) (awaited : Awaited) → count_at at send.places ≡ 1
+      → slice_get old.slots at ≡ Some slot → slot.awaited ≡ Some awaited
+      → awaited.server ≡ send.server
+  to_server at slot awaited one there out =
       let due = all_at (λ place. IsDueAt config old.slots (due_at place send.server)) at send.places
       is.each one in
       let same : due.slot ≡ slot = same_Some due.slot slot (sym due.at ∙ there) in
-      let waits : due.waiting ≡ waiting =
-      same_Some due.waiting waiting (sym due.is.out ∙ ap (λ (k : KeySlot). k.waiting) same
+      let waits : due.awaited ≡ awaited =
+      same_Some due.awaited awaited (sym due.is.out ∙ ap (λ (k : KeySlot). k.awaited) same
       ∙ out) in
       ap (λ (w : Awaited). w.server) (sym waits) ∙ due.server
 
@@ -123,15 +123,15 @@ module _ {config : Configuration} {request : Request} {old : KeysState} {done : 
       (λ at zero_it. own_one at (Shared it)
       ∙ asked_none f old.slots at send.places
       (ap (λ (k : KeysCame). count_at at k.places) (sym came_is) ∙ zero_it))
-      (λ at slot waiting one_it there out.
+      (λ at slot awaited one_it there out.
       let one : count_at at send.places ≡ 1 =
       ap (λ (k : KeysCame). count_at at k.places) (sym came_is) ∙ one_it in
       let own : own_of at more ≡ f (record { place = at; request = slot.key.request }) =
       own_one at (Shared it) ∙ asked_one f old.slots at slot there send.places one in
-      subst (λ (k : KeysCame). ComesTo (part_for_key k (key_of slot)) k.reply waiting slot
+      subst (λ (k : KeysCame). ComesTo (part_for_key k (key_of slot)) k.reply awaited slot
       (own_of at more)) (sym came_is)
-      (own ∙ comes_so waiting send.server outcome (outcome_for (key_of slot) outcome) reply
-      (to_server at slot waiting one there out) (op_same true (key_of slot) outcome))))
+      (own ∙ comes_so awaited send.server outcome (outcome_for (key_of slot) outcome) reply
+      (to_server at slot awaited one there out) (op_same true (key_of slot) outcome))))
 
   -- a key alone
   alone_on : {new : KeysState} {adds : List Interaction} (outcome : Outcome) (reply : Option Reply)
@@ -170,7 +170,7 @@ module _ {config : Configuration} {request : Request} {old : KeysState} {done : 
             (arith, zero_here, count_one at, ap {B = ℕ} (λ b. cond b 1 0) eq.0))
         | inr ne ↦ own_apart place.0 at told (λ e. ne.1 (sym e))
       ])
-      (λ at slot waiting one_it there out.
+      (λ at slot awaited one_it there out.
       let one : count_at at send.places ≡ 1 =
       ap (λ (k : KeysCame). count_at at k.places) (sym came_is) ∙ one_it in
       let own : own_of at more ≡ f (record { place = at; request = slot.key.request }) ∷ told =
@@ -184,10 +184,10 @@ module _ {config : Configuration} {request : Request} {old : KeysState} {done : 
             (ap (λ n. own_of n (all_alone place.0 told)) (sym eq.1) ∙ own_alone place.0 told)
         | inr ne ↦ absurd (omega (arith, one, count_one at, ap {B = ℕ} (λ b. cond b 1 0) ne.0))
       ] in
-      subst (λ (k : KeysCame). ComesTo (part_for_key k (key_of slot)) k.reply waiting slot
+      subst (λ (k : KeysCame). ComesTo (part_for_key k (key_of slot)) k.reply awaited slot
       (own_of at more)) (sym came_is)
-      (own ∙ comes_so waiting send.server outcome outcome reply
-      (to_server at slot waiting one there out) refl)))
+      (own ∙ comes_so awaited send.server outcome outcome reply
+      (to_server at slot awaited one there out) refl)))
 
   pub arrived_by : {new : KeysState} {adds : List Interaction} (outcome : Outcome)
       (reply : Option Reply) (sends : List KeySend) (line : Option Request) → AreUnderWay config new
@@ -218,16 +218,16 @@ module _ {config : Configuration} {request : Request} {old : KeysState} {done : 
       (λ at zero_it.
       own_each f at keys ∙ asked_none (λ (one : AskedKey). f one ∷ []) old.slots at send.places
       (ap (λ (k : KeysCame). count_at at k.places) (sym came_is) ∙ zero_it))
-      (λ at slot waiting one_it there out.
+      (λ at slot awaited one_it there out.
       let one : count_at at send.places ≡ 1 =
       ap (λ (k : KeysCame). count_at at k.places) (sym came_is) ∙ one_it in
       let own : own_of at more ≡ f (record { place = at; request = slot.key.request }) ∷ [] =
       own_each f at keys ∙ asked_one
       (λ (it : AskedKey). f it ∷ []) old.slots at slot there send.places one in
-      subst (λ (k : KeysCame). ComesTo (part_for_key k (key_of slot)) k.reply waiting slot
+      subst (λ (k : KeysCame). ComesTo (part_for_key k (key_of slot)) k.reply awaited slot
       (own_of at more)) (sym came_is) (
         was_sent,
         own ∙ ap (λ n. Made (came n slot.key.request (Err (record {
           sent = was_sent;
-        }))) ∷ []) (sym (to_server at slot waiting one there out)),
+        }))) ∷ []) (sym (to_server at slot awaited one there out)),
       )))

@@ -40,14 +40,14 @@ went_so on say = record { items = on.items; gains = on.gains; is = say _ on.is }
 
 abbrev slot_of : OneKey → List ℕ → List ℕ → Stage → KeySlot
 slot_of key targets outbox at =
-    record { key = key; targets = targets; outbox = outbox; waiting = wait_at at }
+    record { key = key; targets = targets; outbox = outbox; awaited = wait_at at }
 
 abbrev whole : OneKey → List ℕ → List ℕ → Option Awaited → KeySlot
-whole key targets outbox waiting =
-    record { key = key; targets = targets; outbox = outbox; waiting = waiting }
+whole key targets outbox awaited =
+    record { key = key; targets = targets; outbox = outbox; awaited = awaited }
 
 said_at : (at : Stage) → said_by (slot_step at) ≡ key_step at
-said_at (stage.Away clear waiting) = refl
+said_at (stage.Away clear awaited) = refl
 said_at (stage.Done trail) = refl
 
 module _ {H : Type 0} {steps : H → HealthItem → H → Type 0} {health health' : H}
@@ -87,35 +87,35 @@ module _ {H : Type 0} {steps : H → HealthItem → H → Type 0} {health health
 
   -- what came of a send, which was recorded, takes a key on
   pub slot_taken : {one key : OneKey} {was outbox targets targets' : List ℕ} {kept : Option Awaited}
-      {waiting : Awaited} (outcome : Outcome) (reply : Option Reply) (old : KeySlot)
-      → whole one targets was kept ≡ old → kept ≡ Some waiting → targets' ≡ targets
-      → GoesOn steps health (λ more. AfterSend config (asking waiting one) outcome
+      {awaited : Awaited} (outcome : Outcome) (reply : Option Reply) (old : KeySlot)
+      → whole one targets was kept ≡ old → kept ≡ Some awaited → targets' ≡ targets
+      → GoesOn steps health (λ more. AfterSend config (asking awaited one) outcome
       (λ original before. Goes
       (course_of config targets' one original)
-      (before (told_of waiting outcome reply ++ more)) was at key outbox)) health'
+      (before (told_of awaited outcome reply ++ more)) was at key outbox)) health'
       → new ≡ slot_of key targets outbox at → step ≡ slot_step at
-      → GoesOn steps health (λ more. (it : Awaited) → old.waiting ≡ Some it
+      → GoesOn steps health (λ more. (it : Awaited) → old.awaited ≡ Some it
       → SlotTaken config outcome old (told_of it outcome reply ++ more) (said_by step) new) health'
-  slot_taken {one} {key} {was} {outbox} {targets} {targets'} {kept} {waiting} outcome reply old is
+  slot_taken {one} {key} {was} {outbox} {targets} {targets'} {kept} {awaited} outcome reply old is
       out aims on state says =
       let old' = whole one targets was kept in
       let said : said_by step ≡ key_step at = ap said_by says ∙ said_at at in
       let on' : GoesOn steps health
-      (λ more. AfterSend config (asking waiting one) outcome (λ original before. Goes
+      (λ more. AfterSend config (asking awaited one) outcome (λ original before. Goes
       (course_of config targets one original)
-      (before (told_of waiting outcome reply ++ more)) was at key outbox)) health' =
+      (before (told_of awaited outcome reply ++ more)) was at key outbox)) health' =
       subst (λ ts. GoesOn steps health
-      (λ more. AfterSend config (asking waiting one) outcome (λ original before. Goes
+      (λ more. AfterSend config (asking awaited one) outcome (λ original before. Goes
       (course_of config ts one original)
-      (before (told_of waiting outcome reply ++ more)) was at key outbox)) health') aims on in
+      (before (told_of awaited outcome reply ++ more)) was at key outbox)) health') aims on in
       let done : GoesOn steps health (λ more. (it : Awaited) → kept ≡ Some it
       → SlotTaken config outcome old' (told_of it outcome reply ++ more) (said_by step)
       (slot_of key targets outbox at)) health' =
       went_so on' (λ more goes it that.
       subst (λ (w : Awaited). SlotTaken config outcome old' (told_of w outcome reply ++ more)
-      (said_by step) (slot_of key targets outbox at)) (same_Some waiting it (sym out ∙ that))
+      (said_by step) (slot_of key targets outbox at)) (same_Some awaited it (sym out ∙ that))
       (record {
-        waiting = waiting;
+        awaited = awaited;
         out = out;
         at = at;
         goes = goes;
@@ -123,7 +123,7 @@ module _ {H : Type 0} {steps : H → HealthItem → H → Type 0} {health health
         waits = refl;
         says = said;
       })) in
-      subst (λ (s : KeySlot). GoesOn steps health (λ more. (it : Awaited) → s.waiting ≡ Some it
+      subst (λ (s : KeySlot). GoesOn steps health (λ more. (it : Awaited) → s.awaited ≡ Some it
       → SlotTaken config outcome s (told_of it outcome reply ++ more) (said_by step) new)
       health') is
       (subst (λ s. GoesOn steps health (λ more. (it : Awaited) → kept ≡ Some it
@@ -134,76 +134,76 @@ module _ {H : Type 0} {steps : H → HealthItem → H → Type 0} {health health
     {config : Configuration} where
   -- memory ran out there
   pub slot_dropped : {one : OneKey} {was targets targets' : List ℕ} {kept : Option Awaited}
-      {waiting : Awaited} {attempts : List Attempt} {new : KeySlot}
+      {awaited : Awaited} {attempts : List Attempt} {new : KeySlot}
       (outcome : Outcome) (reply : Option Reply) (old : KeySlot) → whole one targets was kept ≡ old
-      → kept ≡ Some waiting → targets' ≡ targets
-      → GoesOn steps health (λ more. AfterSend config (asking waiting one) outcome
+      → kept ≡ Some awaited → targets' ≡ targets
+      → GoesOn steps health (λ more. AfterSend config (asking awaited one) outcome
       (λ original before. EndsBy
       targets' (form_at config.failover_exptime original)
-      (before (told_of waiting outcome reply ++ more)) attempts)) health'
-      → new.waiting ≡ None
-      → GoesOn steps health (λ more. (it : Awaited) → old.waiting ≡ Some it
+      (before (told_of awaited outcome reply ++ more)) attempts)) health'
+      → new.awaited ≡ None
+      → GoesOn steps health (λ more. (it : Awaited) → old.awaited ≡ Some it
       → SlotDropped config outcome old (told_of it outcome reply ++ more) attempts new) health'
-  slot_dropped {one} {was} {targets} {targets'} {kept} {waiting} {attempts} {new} outcome reply old
+  slot_dropped {one} {was} {targets} {targets'} {kept} {awaited} {attempts} {new} outcome reply old
       is out aims on ended =
       let old' = whole one targets was kept in
       let on' : GoesOn steps health
-      (λ more. AfterSend config (asking waiting one) outcome (λ original before. EndsBy
+      (λ more. AfterSend config (asking awaited one) outcome (λ original before. EndsBy
       targets (form_at config.failover_exptime original)
-      (before (told_of waiting outcome reply ++ more)) attempts)) health' =
+      (before (told_of awaited outcome reply ++ more)) attempts)) health' =
       subst (λ ts. GoesOn steps health
-      (λ more. AfterSend config (asking waiting one) outcome (λ original before. EndsBy
+      (λ more. AfterSend config (asking awaited one) outcome (λ original before. EndsBy
       ts (form_at config.failover_exptime original)
-      (before (told_of waiting outcome reply ++ more)) attempts)) health') aims on in
-      subst (λ (s : KeySlot). GoesOn steps health (λ more. (it : Awaited) → s.waiting ≡ Some it
+      (before (told_of awaited outcome reply ++ more)) attempts)) health') aims on in
+      subst (λ (s : KeySlot). GoesOn steps health (λ more. (it : Awaited) → s.awaited ≡ Some it
       → SlotDropped config outcome s (told_of it outcome reply ++ more) attempts new) health')
       is
       (went_so on' (λ more lost it that.
       subst (λ (w : Awaited). SlotDropped config outcome old'
-      (told_of w outcome reply ++ more) attempts new) (same_Some waiting it (sym out ∙ that))
-      (record { waiting = waiting; out = out; ended = ended; lost = lost })))
+      (told_of w outcome reply ++ more) attempts new) (same_Some awaited it (sym out ∙ that))
+      (record { awaited = awaited; out = out; ended = ended; lost = lost })))
 
   -- a key took its part of what came
   pub part_taken : {old new : KeySlot} {came left : KeysCame} {part : Outcome} {said : KeyStep}
       {reply : Option Reply} → IsAnyOut config old → reply ≡ came.reply
       → part_for_key came (key_of old) ≡ Some part → IsLeftForOthers (key_of old) came left
-      → GoesOn steps health (λ more. (it : Awaited) → old.waiting ≡ Some it
+      → GoesOn steps health (λ more. (it : Awaited) → old.awaited ≡ Some it
       → SlotTaken config part old (told_of it part reply ++ more) said new) health'
       → GoesOn steps health (λ calls. PartTaken config came old calls said left new) health'
   part_taken {old} {new} {came} {left} {part} {said} any same is_part leaves on =
       went_so on (λ more taken. record {
         part = part;
         is_part = is_part;
-        waiting = any.waiting;
+        awaited = any.awaited;
         out = any.is.out;
-        taken = subst (λ r. SlotTaken config part old (told_of any.waiting part r ++ more) said new)
-            same (taken any.waiting any.is.out);
+        taken = subst (λ r. SlotTaken config part old (told_of any.awaited part r ++ more) said new)
+            same (taken any.awaited any.is.out);
         leaves = leaves;
       })
 
   pub part_dropped : {old new : KeySlot} {came left : KeysCame} {part : Outcome}
       {attempts : List Attempt} {reply : Option Reply} → IsAnyOut config old → reply ≡ came.reply
       → part_for_key came (key_of old) ≡ Some part → IsLeftForOthers (key_of old) came left
-      → GoesOn steps health (λ more. (it : Awaited) → old.waiting ≡ Some it
+      → GoesOn steps health (λ more. (it : Awaited) → old.awaited ≡ Some it
       → SlotDropped config part old (told_of it part reply ++ more) attempts new) health'
       → GoesOn steps health (λ calls. PartDropped config came old calls attempts left new) health'
   part_dropped {old} {new} {came} {left} {part} {attempts} any same is_part leaves on =
       went_so on (λ more dropped.
-      calls.in_call part any.waiting is_part any.is.out
-      (subst (λ r. SlotDropped config part old (told_of any.waiting part r ++ more) attempts new)
-      same (dropped any.waiting any.is.out)) leaves)
+      calls.in_call part any.awaited is_part any.is.out
+      (subst (λ r. SlotDropped config part old (told_of any.awaited part r ++ more) attempts new)
+      same (dropped any.awaited any.is.out)) leaves)
 
 -- memory ran out for its part
 pub part_stopped : {H : Type 0} {steps : H → HealthItem → H → Type 0} {health : H}
     {config : Configuration} {old new : KeySlot} {came left : KeysCame} {attempts : List Attempt}
     → IsAnyOut config old → left ≡ came
-    → ((waiting : Awaited) → old.waiting ≡ Some waiting → attempts ≡ waiting.attempts)
-    → new ≡ record old { waiting = None }
+    → ((awaited : Awaited) → old.awaited ≡ Some awaited → attempts ≡ awaited.attempts)
+    → new ≡ record old { awaited = None }
     → GoesOn steps health (λ calls. PartDropped config came old calls attempts left new) health
 part_stopped {health = health} any same tried gone = record {
   items = [];
   gains = gains_none health;
-  is = calls.before any.waiting any.is.out refl (tried any.waiting any.is.out) same gone;
+  is = calls.before any.awaited any.is.out refl (tried any.awaited any.is.out) same gone;
 }
 
 -- what is known where memory ran out, in other words

@@ -46,10 +46,10 @@ same_trail e = cc
 module _ (config : Configuration) (request : Request) (key : List ℕ) where
   -- what was done for it is said in fewer words once memory ran out
   pub slot_lost : (came : KeysCame) (here : Bool) (slot : KeySlot) (done : List Interaction)
-      (waiting : Option Awaited) (lost : Bool)
-      → IsSlotAt config request key came here waiting lost slot done
-      → IsSlotAt config request key came here waiting true slot done
-  slot_lost came here slot done (Some waiting) lost is = is
+      (awaited : Option Awaited) (lost : Bool)
+      → IsSlotAt config request key came here awaited lost slot done
+      → IsSlotAt config request key came here awaited true slot done
+  slot_lost came here slot done (Some awaited) lost is = is
   slot_lost came here slot done None false is = over.routed is.trail is.routed
   slot_lost came here slot done None true is = is
 
@@ -66,7 +66,7 @@ module _ (config : Configuration) (request : Request) (key : List ℕ) where
       → slot.targets ≡ targets_of config key
       → done ≡ map Made all ++ key_record (key_step at)
       → IsSlotAt config request key came false (wait_at at) lost slot done
-  goes_at came (stage.Away clear waiting) slot all lost goes aims are = record {
+  goes_at came (stage.Away clear awaited) slot all lost goes aims are = record {
     calls = all;
     aims = aims;
     awaits = goes.reached.0;
@@ -91,7 +91,7 @@ module _ (config : Configuration) (request : Request) (key : List ℕ) where
       → slot.targets ≡ targets_of config key
       → step.Tried trail ≡ key_step at → done ≡ map Made all ++ Noted trail ∷ []
       → IsSlotAt config request key came false (wait_at at) true slot done
-  goes_unrecorded came (stage.Away clear waiting) slot all trail goes aims says are =
+  goes_unrecorded came (stage.Away clear awaited) slot all trail goes aims says are =
       absurd (asks_or_tried says)
   goes_unrecorded came (stage.Done other) slot all trail goes aims says are =
       let same : other ≡ trail = same_trail says in
@@ -124,45 +124,45 @@ module _ (config : Configuration) (request : Request) (key : List ℕ) where
       (subst (λ ts. IsTrail ts attempts) aims ends.tried) ends.make are)
 
   -- memory ran out at its send, or for its part of what came
-  pub came_over : {done : List Interaction} (slot : KeySlot) (waiting : Awaited)
+  pub came_over : {done : List Interaction} (slot : KeySlot) (awaited : Awaited)
       (part : Option Outcome) (reply : Option Reply) (was : List Interaction)
-      → IsKeyCame config request key part reply waiting slot was
-      → done ≡ was ++ Noted waiting.attempts ∷ [] → IsKeyOver config request key done
-  came_over {done} slot waiting (Some part) reply was is are =
+      → IsKeyCame config request key part reply awaited slot was
+      → done ≡ was ++ Noted awaited.attempts ∷ [] → IsKeyOver config request key done
+  came_over {done} slot awaited (Some part) reply was is are =
       let out = is.out in
-      let first : Interaction = Made (came waiting.server slot.key.request (Ok part)) in
-      let told : List Interaction = map Made (told_of waiting part reply) in
-      let all : done ≡ map Made out.calls ++ (first ∷ (told ++ Noted waiting.attempts ∷ [])) =
-      are ∙ ap (λ xs. xs ++ Noted waiting.attempts ∷ []) (is.are ∙ ap (λ xs. xs ++ is.adds) out.are
+      let first : Interaction = Made (came awaited.server slot.key.request (Ok part)) in
+      let told : List Interaction = map Made (told_of awaited part reply) in
+      let all : done ≡ map Made out.calls ++ (first ∷ (told ++ Noted awaited.attempts ∷ [])) =
+      are ∙ ap (λ xs. xs ++ Noted awaited.attempts ∷ []) (is.are ∙ ap (λ xs. xs ++ is.adds) out.are
       ∙ ap (λ xs. map Made out.calls ++ xs) is.comes)
-      ∙ append_assoc (map Made out.calls) (first ∷ told) (Noted waiting.attempts ∷ []) in
+      ∙ append_assoc (map Made out.calls) (first ∷ told) (Noted awaited.attempts ∷ []) in
       over.part_lost (record {
-        trail = waiting.attempts;
+        trail = awaited.attempts;
         calls = out.calls;
-        server = waiting.server;
+        server = awaited.server;
         part = part;
         reply = reply;
-        tried = subst (λ ts. IsCutTrail ts waiting.attempts) out.aims out.awaits.tried;
-        next = out.awaits.server ∙ ap (λ ts. next_target ts waiting.attempts) out.aims;
+        tried = subst (λ ts. IsCutTrail ts awaited.attempts) out.aims out.awaits.tried;
+        next = out.awaits.server ∙ ap (λ ts. next_target ts awaited.attempts) out.aims;
         found = out.found;
         are =
             all ∙ ap (λ (o : OneKey). map Made out.calls
-            ++ (Made (came waiting.server o.request (Ok part))
-            ∷ (told ++ Noted waiting.attempts ∷ []))) out.alone;
+            ++ (Made (came awaited.server o.request (Ok part))
+            ∷ (told ++ Noted awaited.attempts ∷ []))) out.alone;
       })
-  came_over {done} slot waiting None reply was is are =
+  came_over {done} slot awaited None reply was is are =
       let out = is.out in
       let was_sent = is.comes.0 in
       let first : Interaction =
-      Made (came waiting.server slot.key.request (Err (record { sent = was_sent }))) in
-      let all : done ≡ map Made out.calls ++ (first ∷ Noted waiting.attempts ∷ []) =
-      are ∙ ap (λ xs. xs ++ Noted waiting.attempts ∷ []) (is.are ∙ ap (λ xs. xs ++ is.adds) out.are
+      Made (came awaited.server slot.key.request (Err (record { sent = was_sent }))) in
+      let all : done ≡ map Made out.calls ++ (first ∷ Noted awaited.attempts ∷ []) =
+      are ∙ ap (λ xs. xs ++ Noted awaited.attempts ∷ []) (is.are ∙ ap (λ xs. xs ++ is.adds) out.are
       ∙ ap (λ xs. map Made out.calls ++ xs) is.comes.1)
-      ∙ append_assoc (map Made out.calls) (first ∷ []) (Noted waiting.attempts ∷ []) in
-      over.cut (cut.send_lost waiting.attempts out.calls waiting.server was_sent
-      (subst (λ ts. IsCutTrail ts waiting.attempts) out.aims out.awaits.tried)
-      (out.awaits.server ∙ ap (λ ts. next_target ts waiting.attempts) out.aims)
+      ∙ append_assoc (map Made out.calls) (first ∷ []) (Noted awaited.attempts ∷ []) in
+      over.cut (cut.send_lost awaited.attempts out.calls awaited.server was_sent
+      (subst (λ ts. IsCutTrail ts awaited.attempts) out.aims out.awaits.tried)
+      (out.awaits.server ∙ ap (λ ts. next_target ts awaited.attempts) out.aims)
       out.found
       (all ∙ ap (λ (o : OneKey). map Made out.calls
-      ++ (Made (came waiting.server o.request (Err (record { sent = was_sent })))
-      ∷ Noted waiting.attempts ∷ [])) out.alone))
+      ++ (Made (came awaited.server o.request (Err (record { sent = was_sent })))
+      ∷ Noted awaited.attempts ∷ [])) out.alone))

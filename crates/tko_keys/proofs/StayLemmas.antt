@@ -16,13 +16,13 @@ use Rattle.tko_keys.proofs.PlaceLemmas.{IsChanged}
 use Rattle.tko_keys.proofs.OutLemmas.{apart_at, count_at, count_cons, ne_from, no_more}
 
 -- a key whose request is under way has not ended
-pub out_no_values : (slot : KeySlot) (waiting : Awaited) → slot.waiting ≡ Some waiting
+pub out_no_values : (slot : KeySlot) (awaited : Awaited) → slot.awaited ≡ Some awaited
     → has_values slot ≡ false
-out_no_values slot waiting out = ap (λ w. listed_by w slot.key.share) out
+out_no_values slot awaited out = ap (λ w. listed_by w slot.key.share) out
 
-pub out_not_failed : (slot : KeySlot) (waiting : Awaited) → slot.waiting ≡ Some waiting
+pub out_not_failed : (slot : KeySlot) (awaited : Awaited) → slot.awaited ≡ Some awaited
     → has_failed slot ≡ false
-out_not_failed slot waiting out = ap (λ w. failed_by w slot.key.share) out
+out_not_failed slot awaited out = ap (λ w. failed_by w slot.key.share) out
 
 -- the keys of other places stay
 keys_same : {old new : List KeySlot} {place : ℕ} {now : KeySlot} → IsChanged old place now new
@@ -55,7 +55,7 @@ module _ {config : Configuration} {old new : List KeySlot} {place : ℕ} {now : 
   due_stays it apart is =
       record {
         slot = is.slot;
-        waiting = is.waiting;
+        awaited = is.awaited;
         at = changed.others it.place apart ∙ is.at;
         is = is.is;
         server = is.server;
@@ -65,7 +65,7 @@ module _ {config : Configuration} {old new : List KeySlot} {place : ℕ} {now : 
   out_stays one apart is =
       record {
         slot = is.slot;
-        waiting = is.waiting;
+        awaited = is.awaited;
         at = changed.others one apart ∙ is.at;
         is = is.is;
       }

@@ -76,9 +76,9 @@ module _ {config : Configuration} {old new : KeysState} (ready : AreUnderWay con
       }
 
   -- a key that something came for came further
-  pub set_step : (place : ℕ) (places : List ℕ) (was after : KeySlot) (waiting : Awaited)
+  pub set_step : (place : ℕ) (places : List ℕ) (was after : KeySlot) (awaited : Awaited)
       (left : KeysCame) (said : KeyStep) → old.came.places ≡ place ∷ places
-      → slice_get old.slots place ≡ Some was → was.waiting ≡ Some waiting
+      → slice_get old.slots place ≡ Some was → was.awaited ≡ Some awaited
       → left ≡ record old.came { places = places; outcome = left.outcome } → CanGoOn left
       → new.slots ≡ slice_set old.slots place after → new.due ≡ old.due ++ due_by place said
       → new.sends ≡ old.sends → new.came ≡ left
@@ -86,11 +86,11 @@ module _ {config : Configuration} {old new : KeysState} (ready : AreUnderWay con
       → (new.failed ≡ true → (old.failed ≡ true) ⊎ (has_failed after ≡ true))
       → IsSaid config after said
       → KeysStep config old new place after said
-  set_step place places was after waiting left said first at is kept goes_on slots due sends came
+  set_step place places was after awaited left said first at is kept goes_on slots due sends came
       plan unique failed says =
       let longer : values_ahead old.slots ≤ values_ahead new.slots =
       subst (λ ss. values_ahead old.slots ≤ values_ahead ss) (sym slots)
-      (ahead_replaced has_values old.slots place was after at (out_no_values was waiting is)) in
+      (ahead_replaced has_values old.slots place was after at (out_no_values was awaited is)) in
       let one : outs_at old.slots place ≡ 1 = ap outs_in at ∙ ap outs_by is in
       let now : new.came.places ≡ places = ap (λ (k : KeysCame). k.places) (came ∙ kept) in
       let each : All (IsOutAt config old.slots) (place ∷ places) =
@@ -139,7 +139,7 @@ module _ {config : Configuration} {old new : KeysState} (ready : AreUnderWay con
         );
         failed = failed;
         free = λ slot found. ap has_failed (sym (same_Some was slot (sym at ∙ found)))
-            ∙ out_not_failed was waiting is;
+            ∙ out_not_failed was awaited is;
         says = says;
       }
 
@@ -155,7 +155,7 @@ module _ {config : Configuration} {old new : KeysState} (ready : AreUnderWay con
       refl refl refl refl refl refl (failed_more it.slot old.failed) (begun_said it.slot it.begun))
 
   -- memory ran out at it
-  pub next_lost_step : (left : List (List ℕ)) (slot : KeySlot) → MayBegin old → slot.waiting ≡ None
+  pub next_lost_step : (left : List (List ℕ)) (slot : KeySlot) → MayBegin old → slot.awaited ≡ None
       → new ≡ with_loss (record old { left = left; slots = old.slots ++ slot ∷ [] })
       → KeysStep config old new (length old.slots) slot (step.Tried [])
   next_lost_step left slot may ended state =
@@ -172,13 +172,13 @@ module _ {config : Configuration} {old new : KeysState} (ready : AreUnderWay con
       → KeysStep config old new it.place it.after said
   taken_step {said = said} it =
       let part = it.taken in
-      let was : IsSlotOut config it.slot part.taken.waiting =
-      out_first ready it.place it.places it.slot part.taken.waiting it.first it.was
+      let was : IsSlotOut config it.slot part.taken.awaited =
+      out_first ready it.place it.places it.slot part.taken.awaited it.first it.was
       part.taken.out in
       subst (λ (s : KeysState). KeysStep config old s it.place it.after said) (sym it.state)
       (set_step {new = with_taken it.place it.after said it.left old} ready it.place it.places
       it.slot it.after
-      part.waiting it.left said it.first it.was part.out part.leaves.same
+      part.awaited it.left said it.first it.was part.out part.leaves.same
       (part.leaves.goes_on ready.came.replied)
       refl refl refl refl refl refl (failed_more it.after old.failed)
       (taken_said it.slot it.after part.taken was))

@@ -77,11 +77,11 @@ with_dropped place slot came old =
 -- how many times a key is due, under way or not taken on: once, or not at all
 abbrev pub outs_by : Option Awaited → ℕ
 outs_by None = 0
-outs_by (Some waiting) = 1
+outs_by (Some awaited) = 1
 
 abbrev pub outs_in : Option KeySlot → ℕ
 outs_in None = 0
-outs_in (Some slot) = outs_by slot.waiting
+outs_in (Some slot) = outs_by slot.awaited
 
 abbrev pub outs_at : List KeySlot → ℕ → ℕ
 outs_at slots place = outs_in (slice_get slots place)
@@ -102,10 +102,10 @@ module _ (config : Configuration) where
   -- the key of a place is due at a server, or its request is under way there
   pub record IsDueAt (slots : List KeySlot) (it : DueKey) : Type 0 where
     pub slot : KeySlot
-    pub waiting : Awaited
+    pub awaited : Awaited
     pub at : slice_get slots it.place ≡ Some slot
-    pub is : IsSlotOut config slot waiting
-    pub server : waiting.server ≡ it.server
+    pub is : IsSlotOut config slot awaited
+    pub server : awaited.server ≡ it.server
 
   -- a request is under way for such keys
   pub record IsSentAt (grouping : Grouping) (unique : Bool) (slots : List KeySlot) (send : KeySend)
@@ -116,9 +116,9 @@ module _ (config : Configuration) where
   -- a key of a place waits to be taken on
   pub record IsOutAt (slots : List KeySlot) (place : ℕ) : Type 0 where
     pub slot : KeySlot
-    pub waiting : Awaited
+    pub awaited : Awaited
     pub at : slice_get slots place ≡ Some slot
-    pub is : IsSlotOut config slot waiting
+    pub is : IsSlotOut config slot awaited
 
   -- keys wait to be taken on, and what came for each of them is there, and was recorded
   pub record HaveCome (slots : List KeySlot) (came : KeysCame) : Type 0 where
@@ -157,7 +157,7 @@ module _ (config : Configuration) where
     unbegun : calls ≡ [] → attempts ≡ [] → new ≡ with_loss old → NextLost old calls attempts new
     at_next : (key : List ℕ) (left : List (List ℕ)) (slot : KeySlot) → MayBegin old
         → old.left ≡ key ∷ left
-        → KeyLost config (retrieval (key ∷ []) old.unique) calls attempts → slot.waiting ≡ None
+        → KeyLost config (retrieval (key ∷ []) old.unique) calls attempts → slot.awaited ≡ None
         → new ≡ with_loss (record old { left = left; slots = old.slots ++ slot ∷ [] })
         → NextLost old calls attempts new
 

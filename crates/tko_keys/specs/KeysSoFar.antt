@@ -23,15 +23,15 @@ use Rattle.tko_keys.specs.KeysState.{KeySlot, KeysCame, KeysState}
 use Rattle.tko_keys.specs.Lines.{key_of, part_for_key}
 
 -- a key of a request is asked for alone, and its calls found up the server that it waits for
-pub record IsKeyOut (config : Configuration) (request : Request) (key : List ℕ) (waiting : Awaited)
+pub record IsKeyOut (config : Configuration) (request : Request) (key : List ℕ) (awaited : Awaited)
     (slot : KeySlot) (done : List Interaction) : Type 0 where
   pub calls : List RoutedCall
   pub aims : slot.targets ≡ targets_of config key
-  pub awaits : IsAwaited slot.targets waiting
+  pub awaits : IsAwaited slot.targets awaited
   pub found : FindsUp (form_in config (request_for request key)) calls
-      waiting.attempts waiting.server
+      awaited.attempts awaited.server
   pub alone : slot.key ≡ record {
-    request = form_in config (request_for request key) (length waiting.attempts);
+    request = form_in config (request_for request key) (length awaited.attempts);
     share = share.Joined 0 [];
   }
   pub empty : slot.outbox ≡ []
@@ -39,20 +39,20 @@ pub record IsKeyOut (config : Configuration) (request : Request) (key : List ℕ
 
 -- this came for the key that waits, and then the call that recorded it; or memory ran out for it
 abbrev pub ComesTo : Option Outcome → Option Reply → Awaited → KeySlot → List Interaction → Type 0
-ComesTo (Some part) reply waiting slot adds =
-    adds ≡ Made (came waiting.server slot.key.request (Ok part))
-    ∷ map Made (told_of waiting part reply)
-ComesTo None reply waiting slot adds = (was_sent : Bool)
-    × (adds ≡ Made (came waiting.server slot.key.request (Err (record { sent = was_sent }))) ∷ [])
+ComesTo (Some part) reply awaited slot adds =
+    adds ≡ Made (came awaited.server slot.key.request (Ok part))
+    ∷ map Made (told_of awaited part reply)
+ComesTo None reply awaited slot adds = (was_sent : Bool)
+    × (adds ≡ Made (came awaited.server slot.key.request (Err (record { sent = was_sent }))) ∷ [])
 
 -- the same key, once something came for it, which was not taken on
 pub record IsKeyCame (config : Configuration) (request : Request) (key : List ℕ)
-    (part : Option Outcome) (reply : Option Reply) (waiting : Awaited) (slot : KeySlot)
+    (part : Option Outcome) (reply : Option Reply) (awaited : Awaited) (slot : KeySlot)
     (done : List Interaction) : Type 0 where
   pub before : List Interaction
   pub adds : List Interaction
-  pub out : IsKeyOut config request key waiting slot before
-  pub comes : ComesTo part reply waiting slot adds
+  pub out : IsKeyOut config request key awaited slot before
+  pub comes : ComesTo part reply awaited slot adds
   pub are : done ≡ before ++ adds
 
 -- a key of a request was routed and its trail recorded; its values are in its outbox, or else its
@@ -68,18 +68,18 @@ abbrev pub is_to_take : ℕ → KeysCame → Bool
 is_to_take place came = list_any (λ other. other == place) came.places
 
 -- how far a key came that waits for this, where nothing came for it yet, or something did
-abbrev pub IsWaitingAt : Configuration → Request → List ℕ → KeysCame → Bool → Awaited → KeySlot
+abbrev pub IsAwaitedAt : Configuration → Request → List ℕ → KeysCame → Bool → Awaited → KeySlot
     → List Interaction → Type 0
-IsWaitingAt config request key came false waiting slot done =
-    IsKeyOut config request key waiting slot done
-IsWaitingAt config request key came true waiting slot done =
-    IsKeyCame config request key (part_for_key came (key_of slot)) came.reply waiting slot done
+IsAwaitedAt config request key came false awaited slot done =
+    IsKeyOut config request key awaited slot done
+IsAwaitedAt config request key came true awaited slot done =
+    IsKeyCame config request key (part_for_key came (key_of slot)) came.reply awaited slot done
 
 -- how far a key came, whether it waits or not; once memory ran out, responses are not told any more
 abbrev pub IsSlotAt : Configuration → Request → List ℕ → KeysCame → Bool → Option Awaited → Bool
     → KeySlot → List Interaction → Type 0
-IsSlotAt config request key came here (Some waiting) lost slot done =
-    IsWaitingAt config request key came here waiting slot done
+IsSlotAt config request key came here (Some awaited) lost slot done =
+    IsAwaitedAt config request key came here awaited slot done
 IsSlotAt config request key came here None false slot done =
     IsKeyEnded config request key slot done
 IsSlotAt config request key came here None true slot done = IsKeyOver config request key done
@@ -97,5 +97,5 @@ pub record KeysSoFar (config : Configuration) (request : Request) (state : KeysS
   pub are_placed : ArePlaced state.plan.grouping (length state.slots) placed done
   pub each : (place : ℕ) (key : List ℕ) (slot : KeySlot) → slice_get begun place ≡ Some key
       → slice_get state.slots place ≡ Some slot
-      → IsSlotAt config request key state.came (is_to_take place state.came) slot.waiting
+      → IsSlotAt config request key state.came (is_to_take place state.came) slot.awaited
       state.lost slot (own_of place placed)

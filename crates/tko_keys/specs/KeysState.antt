@@ -23,7 +23,7 @@ pub record KeySlot : Type 0 where
   pub key : OneKey
   pub targets : List ℕ
   pub outbox : List ℕ
-  pub waiting : Option Awaited
+  pub awaited : Option Awaited
 
 -- a key that is due at a server, which its look-ups found up: its place in the request
 pub record DueKey : Type 0 where
@@ -96,18 +96,18 @@ pub record IsNew (request : Request) (plan : KeyPlan) (state : KeysState) : Type
 -- the attempts at a key have ended, and its response is a list of values
 abbrev pub listed_by : Option Awaited → ReplyPart → Bool
 listed_by None kind = is_joined kind
-listed_by (Some waiting) kind = false
+listed_by (Some awaited) kind = false
 
 abbrev pub has_values : KeySlot → Bool
-has_values slot = listed_by slot.waiting slot.key.share
+has_values slot = listed_by slot.awaited slot.key.share
 
 -- the attempts have ended, and the response is no list of values
 abbrev pub failed_by : Option Awaited → ReplyPart → Bool
 failed_by None kind = not (is_joined kind)
-failed_by (Some waiting) kind = false
+failed_by (Some awaited) kind = false
 
 abbrev pub has_failed : KeySlot → Bool
-has_failed slot = failed_by slot.waiting slot.key.share
+has_failed slot = failed_by slot.awaited slot.key.share
 
 -- so many keys from the first one on got lists of values
 abbrev pub values_ahead : List KeySlot → ℕ
@@ -123,8 +123,8 @@ abbrev pub places_out : KeysState → List ℕ
 places_out state = key_places_in state.due state.sends state.came
 
 -- the servers that requests are under way to, in the order in which they were sent
-abbrev pub awaited : KeysState → List ℕ
-awaited state = map (λ send. send.server) state.sends
+abbrev pub awaited_servers : KeysState → List ℕ
+awaited_servers state = map (λ send. send.server) state.sends
 
 -- the first key that is due at a server
 abbrev pub first_due : ℕ → List DueKey → Option DueKey
@@ -205,11 +205,11 @@ keys_first server state = option_map (λ send. length send.places) (first_send s
 -- the attempts at a key before the server where it is due
 abbrev pub attempts_of : Option Awaited → List Attempt
 attempts_of None = []
-attempts_of (Some waiting) = waiting.attempts
+attempts_of (Some awaited) = awaited.attempts
 
 -- the attempts at the key that became due last
 abbrev pub attempts_at : List KeySlot → DueKey → Option (List Attempt)
-attempts_at slots it = option_map (λ slot. attempts_of slot.waiting) (slice_get slots it.place)
+attempts_at slots it = option_map (λ slot. attempts_of slot.awaited) (slice_get slots it.place)
 
 abbrev pub attempts_last : KeysState → Option (List Attempt)
 attempts_last state =

@@ -24,18 +24,18 @@ use Rattle.tko_keys.specs.Lines.{key_of, part_for_key}
 
 -- what a call says where a key came so far
 abbrev pub key_step : Stage → KeyStep
-key_step (stage.Away clear waiting) = step.Due clear
+key_step (stage.Away clear awaited) = step.Due clear
 key_step (stage.Done trail) = step.Tried trail
 
 -- what the key waits for there
 abbrev pub wait_at : Stage → Option Awaited
-wait_at (stage.Away clear waiting) = Some waiting
+wait_at (stage.Away clear awaited) = Some awaited
 wait_at (stage.Done trail) = None
 
 -- a key that is asked for by this request, before anything is done for it
 abbrev pub fresh_slot : Request → KeySlot
 fresh_slot request =
-    record { key = one_of request; targets = []; outbox = []; waiting = None }
+    record { key = one_of request; targets = []; outbox = []; awaited = None }
 
 -- what came was recorded, by the table of outcomes
 abbrev pub CanGoOn : KeysCame → Type 0
@@ -51,15 +51,15 @@ pub record IsLeftForOthers (key : List ℕ) (old new : KeysCame) : Type 0 where
 module _ (config : Configuration) where
   -- it is due at one of its targets, which are servers, or its request is under way there, and it
   -- has no response yet
-  pub record IsSlotOut (slot : KeySlot) (waiting : Awaited) : Type 0 where
-    pub out : slot.waiting ≡ Some waiting
-    pub sent : IsSent config slot.targets (asking waiting slot.key)
+  pub record IsSlotOut (slot : KeySlot) (awaited : Awaited) : Type 0 where
+    pub out : slot.awaited ≡ Some awaited
+    pub sent : IsSent config slot.targets (asking awaited slot.key)
     pub apart : slot.key.share ≡ share.Joined 0 []
     pub empty : slot.outbox ≡ []
 
   pub record IsAnyOut (slot : KeySlot) : Type 0 where
-    pub waiting : Awaited
-    pub is : IsSlotOut slot waiting
+    pub awaited : Awaited
+    pub is : IsSlotOut slot awaited
 
   -- it was asked for over its targets, which are servers
   pub record SlotBegun (request : Request) (calls : List RoutedCall) (said : KeyStep)
@@ -69,29 +69,29 @@ module _ (config : Configuration) where
         calls [] at slot.key slot.outbox
     pub aims : GoesTo config request slot.targets
     pub within : AreServers config slot.targets
-    pub waits : slot.waiting ≡ wait_at at
+    pub waits : slot.awaited ≡ wait_at at
     pub says : said ≡ key_step at
 
   -- what came of its send was recorded
   pub record SlotTaken (outcome : Outcome) (old : KeySlot) (calls : List RoutedCall)
       (said : KeyStep) (new : KeySlot) : Type 0 where
-    pub waiting : Awaited
-    pub out : old.waiting ≡ Some waiting
+    pub awaited : Awaited
+    pub out : old.awaited ≡ Some awaited
     pub at : Stage
-    pub goes : AfterSend config (asking waiting old.key) outcome (λ original before. Goes
+    pub goes : AfterSend config (asking awaited old.key) outcome (λ original before. Goes
         (course_of config old.targets old.key original) (before calls)
         old.outbox at new.key new.outbox)
     pub same : new.targets ≡ old.targets
-    pub waits : new.waiting ≡ wait_at at
+    pub waits : new.awaited ≡ wait_at at
     pub says : said ≡ key_step at
 
   -- memory ran out there, after these attempts
   pub record SlotDropped (outcome : Outcome) (old : KeySlot) (calls : List RoutedCall)
       (attempts : List Attempt) (new : KeySlot) : Type 0 where
-    pub waiting : Awaited
-    pub out : old.waiting ≡ Some waiting
-    pub ended : new.waiting ≡ None
-    pub lost : AfterSend config (asking waiting old.key) outcome (λ original before. EndsBy
+    pub awaited : Awaited
+    pub out : old.awaited ≡ Some awaited
+    pub ended : new.awaited ≡ None
+    pub lost : AfterSend config (asking awaited old.key) outcome (λ original before. EndsBy
         old.targets (form_at config.failover_exptime original) (before calls) attempts)
 
   -- A key took its part of what came, which goes on so with what is left of that. The keys that
@@ -100,18 +100,18 @@ module _ (config : Configuration) where
       (left : KeysCame) (new : KeySlot) : Type 0 where
     pub part : Outcome
     pub is_part : part_for_key came (key_of old) ≡ Some part
-    pub waiting : Awaited
-    pub out : old.waiting ≡ Some waiting
-    pub taken : SlotTaken part old (told_of waiting part came.reply ++ calls) said new
+    pub awaited : Awaited
+    pub out : old.awaited ≡ Some awaited
+    pub taken : SlotTaken part old (told_of awaited part came.reply ++ calls) said new
     pub leaves : IsLeftForOthers (key_of old) came left
 
   -- memory ran out there, after these attempts; or it ran out for the part, or before
   pub data PartDropped (came : KeysCame) (old : KeySlot) (calls : List RoutedCall)
       (attempts : List Attempt) (left : KeysCame) (new : KeySlot) : Type 0 where
-    in_call : (part : Outcome) (waiting : Awaited) → part_for_key came (key_of old) ≡ Some part
-        → old.waiting ≡ Some waiting
-        → SlotDropped part old (told_of waiting part came.reply ++ calls) attempts new
+    in_call : (part : Outcome) (awaited : Awaited) → part_for_key came (key_of old) ≡ Some part
+        → old.awaited ≡ Some awaited
+        → SlotDropped part old (told_of awaited part came.reply ++ calls) attempts new
         → IsLeftForOthers (key_of old) came left → PartDropped came old calls attempts left new
-    before : (waiting : Awaited) → old.waiting ≡ Some waiting → calls ≡ []
-        → attempts ≡ waiting.attempts → left ≡ came → new ≡ record old { waiting = None }
+    before : (awaited : Awaited) → old.awaited ≡ Some awaited → calls ≡ []
+        → attempts ≡ awaited.attempts → left ≡ came → new ≡ record old { awaited = None }
         → PartDropped came old calls attempts left new

@@ -8,7 +8,7 @@ use Rattle.tko_keys.specs.declared.step.SlotStep.TheVariants as slot
 
 -- what a call of a key says where it came so far
 abbrev pub slot_step : Stage → SlotStep
-slot_step (stage.Away clear waiting) = slot.Due clear
+slot_step (stage.Away clear awaited) = slot.Due clear
 slot_step (stage.Done trail) = slot.Tried trail
 
 -- what a call for the keys says where one of a key said this

@@ -2,7 +2,8 @@
 ghost use Rattle.std.specs.Prelude.{◌≡◌, ◌≢◌, ◌<◌, ◌↔◌, ◌-◌, ◌^◌, min, [], IfOk, IsTrue, length};
 ghost use Rattle.tko_reply.specs.Answers.{request_keys};
 ghost use Rattle.tko_keys.specs.KeysDriven.{with_loss};
-ghost use Rattle.tko_keys.specs.KeysState.{IsComplete, IsNew, MayBegin, awaited, bytes_held_in};
+ghost use Rattle.tko_keys.specs.KeysState.{IsComplete, IsNew, MayBegin, awaited_servers};
+ghost use Rattle.tko_keys.specs.KeysState.{bytes_held_in};
 
 use crate::come::Come;
 use crate::due::Due;
@@ -138,7 +139,7 @@ impl KeysAtOnce {
 
     /// Whether requests of it are under way.
     pub fn is_asking(&self) -> bool
-        ensures { IsTrue result ↔ (awaited self.now ≢ []) }
+        ensures { IsTrue result ↔ (awaited_servers self.now ≢ []) }
     {
         !self.sends.is_empty()
     }

@@ -33,7 +33,7 @@ pub(crate) struct Slot {
     pub targets: SmallVec<usize, 1>,
     pub outbox: Outbox,
     /// While it is due at a server, or its request is under way.
-    pub waiting: Option<AwaitedSend>,
+    pub awaited: Option<AwaitedSend>,
 }
 
 impl Model for Slot {
@@ -45,7 +45,7 @@ impl Model for Slot {
       key = s.key;
       targets = s.targets.items;
       outbox = s.outbox;
-      waiting = s.waiting;
+      awaited = s.awaited;
     } };
 }
 
@@ -58,7 +58,7 @@ impl Slot {
             key: OneKey::one_of(alloc, request),
             targets: SmallVec::new(alloc),
             outbox: Outbox::new(alloc),
-            waiting: None,
+            awaited: None,
         }
     }
 
@@ -77,7 +77,7 @@ impl Slot {
             SlotBegun config.now self.old.key.request calls (said_by step) self.new) health.new) }
         ensures lost { IfErr result (λ attempts. GoesOn H.steps health.old (λ calls.
             KeyLost config.now self.old.key.request calls attempts) health.new) }
-        ensures err { OnErr result (self.new.waiting ≡ None) }
+        ensures err { OnErr result (self.new.awaited ≡ None) }
         ensures servers { H.servers health.new ≡ H.servers health.old }
     {
         let outbox = &mut self.outbox;
@@ -131,21 +131,21 @@ impl Slot {
         requires out { IsAnyOut config.now self.old }
         requires replied { IsSome reply ↔ IsSome (op_of outcome) }
         ensures ok { IfOk result (λ step. GoesOn H.steps health.old (λ more.
-            (waiting : Awaited) → self.old.waiting ≡ Some waiting → SlotTaken config.now outcome
-            self.old (told_of waiting outcome reply ++ more) (said_by step) self.new)
+            (awaited : Awaited) → self.old.awaited ≡ Some awaited → SlotTaken config.now outcome
+            self.old (told_of awaited outcome reply ++ more) (said_by step) self.new)
             health.new) }
         ensures lost { IfErr result (λ attempts. GoesOn H.steps health.old (λ more.
-            (waiting : Awaited) → self.old.waiting ≡ Some waiting → SlotDropped config.now outcome
-            self.old (told_of waiting outcome reply ++ more) attempts self.new) health.new) }
+            (awaited : Awaited) → self.old.awaited ≡ Some awaited → SlotDropped config.now outcome
+            self.old (told_of awaited outcome reply ++ more) attempts self.new) health.new) }
         ensures servers { H.servers health.new ≡ H.servers health.old }
     {
-        let Some(waiting) = replace(&mut self.waiting, None) else {
+        let Some(awaited) = replace(&mut self.awaited, None) else {
             unreachable!();
         };
         let targets = self.targets.as_slice();
         let outbox = &mut self.outbox;
         let key = &mut self.key;
-        match key.recorded(rt, health, config, targets, outbox, waiting, outcome, reply) {
+        match key.recorded(rt, health, config, targets, outbox, awaited, outcome, reply) {
             Ok(stage) => Ok(self.go_to(stage)),
             Err(lost) => Err(lost),
         }
@@ -154,15 +154,15 @@ impl Slot {
     /// Goes to where its routing came.
     fn go_to(&mut self, stage: Stage) -> SlotStep
         ensures says { result ≡ slot_step stage }
-        ensures state { self.new ≡ record self.old { waiting = wait_at stage } }
+        ensures state { self.new ≡ record self.old { awaited = wait_at stage } }
     {
         match stage {
-            Stage::Away(clear, waiting) => {
-                self.waiting = Some(waiting);
+            Stage::Away(clear, awaited) => {
+                self.awaited = Some(awaited);
                 SlotStep::Due(clear)
             }
             Stage::Done(trail) => {
-                self.waiting = None;
+                self.awaited = None;
                 SlotStep::Tried(trail)
             }
         }
@@ -170,21 +170,21 @@ impl Slot {
 
     /// Drops the key where memory ran out for it.
     fn stop(&mut self) -> Dropped
-        requires out { IsSome self.old.waiting }
-        ensures attempts { (waiting : Awaited) → self.old.waiting ≡ Some waiting
-            → result ≡ waiting.attempts }
-        ensures state { self.new ≡ record self.old { waiting = None } }
+        requires out { IsSome self.old.awaited }
+        ensures attempts { (awaited : Awaited) → self.old.awaited ≡ Some awaited
+            → result ≡ awaited.attempts }
+        ensures state { self.new ≡ record self.old { awaited = None } }
     {
-        let Some(waiting) = replace(&mut self.waiting, None) else {
+        let Some(awaited) = replace(&mut self.awaited, None) else {
             unreachable!();
         };
-        stop(waiting, ExchangeNoMemory { sent: false })
+        stop(awaited, ExchangeNoMemory { sent: false })
     }
 
     /// How many attempts at the key ended before the server that it waits for.
     pub(crate) fn tried(&self) -> usize {
-        match &self.waiting {
-            Some(waiting) => waiting.attempts().len(),
+        match &self.awaited {
+            Some(awaited) => awaited.attempts().len(),
             None => 0,
         }
     }
@@ -193,14 +193,14 @@ impl Slot {
     pub(crate) fn has_values(&self) -> bool
         ensures { result ≡ has_values self.now }
     {
-        self.waiting.is_none() && self.key.is_listed()
+        self.awaited.is_none() && self.key.is_listed()
     }
 
     /// Whether the attempts ended, and the response is no list of values.
     pub(crate) fn has_failed(&self) -> bool
         ensures { result ≡ has_failed self.now }
     {
-        self.waiting.is_none() && !self.key.is_listed()
+        self.awaited.is_none() && !self.key.is_listed()
     }
 }
 

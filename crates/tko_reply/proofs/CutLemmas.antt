@@ -157,21 +157,21 @@ module _ {config : Configuration} where
       {it : SentKey} {targets : List ℕ} (was_sent : Bool)
       → IsSending config request outbox clear it targets was outbox'
       → IsAnswerCut config request
-      (was ++ Made (came it.waiting.server it.key.request (Err (record { sent = was_sent })))
-      ∷ Noted it.waiting.attempts ∷ [])
+      (was ++ Made (came it.awaited.server it.key.request (Err (record { sent = was_sent })))
+      ∷ Noted it.awaited.attempts ∷ [])
   sent_cut {request} {was = was} {it = it} was_sent sending =
-      let trail = it.waiting.attempts in
+      let trail = it.awaited.attempts in
       let Last : Request → List Interaction =
-      λ r. Made (came it.waiting.server r (Err (record { sent = was_sent }))) ∷ Noted trail
+      λ r. Made (came it.awaited.server r (Err (record { sent = was_sent }))) ∷ Noted trail
       ∷ [] in
       let waits = sending.reached.0 in
       let form : it.key.request ≡ form_in config sending.first.request (length trail) =
       ap (λ (o : OneKey). o.request) sending.keeps in
       let lost = cut_in (map Made sending.calls ++ Last it.key.request) sending.at (λ other same.
-      cut.send_lost trail sending.calls it.waiting.server was_sent
+      cut.send_lost trail sending.calls it.awaited.server was_sent
       (subst (λ ts. IsCutTrail ts trail) sending.aims waits.tried)
       (waits.server ∙ ap (λ ts. next_target ts trail) sending.aims)
-      (subst (λ (r : Request). FindsUp (form_in config r) sending.calls trail it.waiting.server)
+      (subst (λ (r : Request). FindsUp (form_in config r) sending.calls trail it.awaited.server)
       (sym same) sending.reached.2)
       (ap (λ r. map Made sending.calls ++ Last r)
       (form ∙ ap (λ (r : Request). form_in config r (length trail)) (sym same)))) in

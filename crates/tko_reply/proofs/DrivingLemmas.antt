@@ -75,7 +75,7 @@ module _ {config : Configuration} where
       }) outbox' one outbox''
       → Stands config request outbox to one targets (was ++ map Made calls) outbox''
   settled {request} {outbox} {outbox'} {was} {key} {first} {targets} calls
-      (stage.Away clear waiting) one outbox'' it aims reached (is, same) = record {
+      (stage.Away clear awaited) one outbox'' it aims reached (is, same) = record {
         key = key;
         first = first;
         before = was;

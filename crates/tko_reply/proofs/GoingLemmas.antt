@@ -67,7 +67,7 @@ form_then to original request request' place exptime exptime' same is then =
 ends_by : {targets : List ℕ} {form : ℕ → Request} {calls : List RoutedCall} (to : Stage)
     (trail : List Attempt)
     → Reached targets form calls to → IsEndOf to trail → EndsBy targets form calls trail
-ends_by (stage.Away clear waiting) trail reached is = absurd is
+ends_by (stage.Away clear awaited) trail reached is = absurd is
 ends_by {targets} {form} {calls} (stage.Done all) trail reached is =
     subst (EndsBy targets form calls) (sym is) (record { tried = reached.0; make = reached.1 })
 
@@ -113,11 +113,11 @@ module _ {H : Type 0} {steps : H → HealthItem → H → Type 0} {old new : H} 
       (to : Stage) (it : SentKey) (targets : List ℕ)
       (got : Outcome) (told : List RoutedCall) (exptime' : ℕ) (request' : Request)
       → exptime' ≡ config.failover_exptime
-      → ((r : Request) → it.key.request ≡ form_at exptime' r (length it.waiting.attempts)
+      → ((r : Request) → it.key.request ≡ form_at exptime' r (length it.awaited.attempts)
       → request' ≡ form_at exptime' r (last_place to))
       → GoesOn steps old (λ more. (form : ℕ → Request) (calls : List RoutedCall)
-      → FindsUp form calls it.waiting.attempts it.waiting.server
-      → Reached targets form (calls ++ came_of form it.waiting got ∷ (told ++ more)) to) new
+      → FindsUp form calls it.awaited.attempts it.awaited.server
+      → Reached targets form (calls ++ came_of form it.awaited got ∷ (told ++ more)) to) new
       → at ≡ to → Settles to (record { request = request'; share = it.key.share }) outbox one
       outbox'
       → GoesOn steps old (λ more. AfterSend config it got
@@ -134,14 +134,14 @@ module _ {H : Type 0} {steps : H → HealthItem → H → Type 0} {old new : H} 
         is = λ original calls is up. record {
           reached =
               subst (λ r. Reached targets (form_at config.failover_exptime original)
-              (calls ++ came it.waiting.server r (Ok got) ∷ (told ++ map Told on.items)) to)
+              (calls ++ came it.awaited.server r (Ok got) ∷ (told ++ map Told on.items)) to)
               (sym is)
               (on.is (form_at config.failover_exptime original) calls up);
           settles =
               subst (λ r. Settles to (record { request = r; share = it.key.share }) outbox one
               outbox')
               (form_then to original it.key.request request'
-              (length it.waiting.attempts) config.failover_exptime exptime' alike is then)
+              (length it.awaited.attempts) config.failover_exptime exptime' alike is then)
               settles;
         };
       })
@@ -150,8 +150,8 @@ module _ {H : Type 0} {steps : H → HealthItem → H → Type 0} {old new : H} 
   pub answered_lost : (config : Configuration) (to : Stage) (it : SentKey) (targets : List ℕ)
       (got : Outcome) (told : List RoutedCall) (trail : List Attempt)
       → GoesOn steps old (λ more. (form : ℕ → Request) (calls : List RoutedCall)
-      → FindsUp form calls it.waiting.attempts it.waiting.server
-      → Reached targets form (calls ++ came_of form it.waiting got ∷ (told ++ more)) to) new
+      → FindsUp form calls it.awaited.attempts it.awaited.server
+      → Reached targets form (calls ++ came_of form it.awaited got ∷ (told ++ more)) to) new
       → IsEndOf to trail
       → GoesOn steps old (λ more. AfterSend config it got
       (λ original calls. EndsBy targets (form_at config.failover_exptime original)
@@ -162,7 +162,7 @@ module _ {H : Type 0} {steps : H → HealthItem → H → Type 0} {old new : H} 
     is = λ original calls same up.
         ends_by to trail
         (subst (λ r. Reached targets (form_at config.failover_exptime original)
-        (calls ++ came it.waiting.server r (Ok got) ∷ (told ++ map Told on.items)) to)
+        (calls ++ came it.awaited.server r (Ok got) ∷ (told ++ map Told on.items)) to)
         (sym same)
         (on.is (form_at config.failover_exptime original) calls up)) is;
   }

@@ -42,7 +42,7 @@ has_front begin (share.Joined first left) outbox (same, within) =
 
 -- where a send is out for a key, it is to one of the targets
 abbrev pub AwaitsAt : Configuration → List ℕ → Stage → OneKey → Type 0
-AwaitsAt config targets (stage.Away clear waiting) one = IsSent config targets (asking waiting one)
+AwaitsAt config targets (stage.Away clear awaited) one = IsSent config targets (asking awaited one)
 AwaitsAt config targets (stage.Done trail) one = Unit {0}
 
 held_more : {begin : ℕ} (outbox outbox' more : List ℕ) → outbox' ≡ outbox ++ more
@@ -80,7 +80,7 @@ replies_held found outbox outbox' begin (share.Joined first left) kind' (same, w
 settled_held : (outbox outbox' : List ℕ) (begin : ℕ) (to : Stage) (one one' : OneKey)
     → BeginsAt begin one.share outbox
     → Settles to one outbox one' outbox' → BeginsAt begin one'.share outbox'
-settled_held outbox outbox' begin (stage.Away clear waiting) one one' held (is, same) =
+settled_held outbox outbox' begin (stage.Away clear awaited) one one' held (is, same) =
     let held' : BeginsAt begin one.share outbox' =
     subst (BeginsAt begin one.share) (sym same) held in
     subst (λ (o : OneKey). BeginsAt begin o.share outbox') (sym is) held'
@@ -93,17 +93,17 @@ settled_awaits : (outbox outbox' : List ℕ) (targets : List ℕ) (original : Re
     → one.request ≡ form_at config.failover_exptime original (last_place to)
     → Reached targets (form_at config.failover_exptime original) calls to
     → Settles to one outbox one' outbox' → AwaitsAt config targets to one'
-settled_awaits outbox outbox' targets original calls config (stage.Away clear waiting) one one' are
+settled_awaits outbox outbox' targets original calls config (stage.Away clear awaited) one one' are
     form reached (is, same) =
-    let sent : IsSent config targets (asking waiting one) =
+    let sent : IsSent config targets (asking awaited one) =
     record {
-      out = record { within = are; awaited = reached.0 };
+      out = record { within = are; awaits = reached.0 };
       original = original;
       calls = calls;
       form = form;
       found = reached.2;
     } in
-    subst (λ o. IsSent config targets (asking waiting o)) (sym is) sent
+    subst (λ o. IsSent config targets (asking awaited o)) (sym is) sent
 settled_awaits outbox outbox' targets original calls config (stage.Done trail) one one' are form
     reached settles = tt
 

@@ -58,9 +58,9 @@ pub record IsSending (config : Configuration) (request : Request) (outbox : List
   pub calls : List RoutedCall
   pub at : IsAt config request outbox key first before outbox'
   pub aims : targets ≡ targets_of config key
-  pub reached : Reached targets (form_in config first.request) calls (stage.Away clear it.waiting)
+  pub reached : Reached targets (form_in config first.request) calls (stage.Away clear it.awaited)
   pub keeps : it.key ≡ record {
-    request = form_in config first.request (length it.waiting.attempts);
+    request = form_in config first.request (length it.awaited.attempts);
     share = first.share;
   }
   pub are : was ≡ before ++ map Made calls
@@ -103,8 +103,8 @@ pub record IsTried (config : Configuration) (request : Request) (outbox : List �
 -- how far a key of it came
 abbrev pub Stands : Configuration → Request → List ℕ → Stage → OneKey → List ℕ
     → List Interaction → List ℕ → Type 0
-Stands config request outbox (stage.Away clear waiting) one targets was outbox' =
-    IsSending config request outbox clear (asking waiting one) targets was outbox'
+Stands config request outbox (stage.Away clear awaited) one targets was outbox' =
+    IsSending config request outbox clear (asking awaited one) targets was outbox'
 Stands config request outbox (stage.Done trail) one targets was outbox' =
     IsTried config request outbox trail one was outbox'
 

@@ -88,7 +88,7 @@ Replies (share.Joined begin left) found outbox share' outbox' =
 -- where a routing came to a stage: nothing else changed; or the attempts at its key have ended, and
 -- the response went into the reply
 abbrev pub Settles : Stage → OneKey → List ℕ → OneKey → List ℕ → Type 0
-Settles (stage.Away clear waiting) one outbox one' outbox' = (one' ≡ one) × (outbox' ≡ outbox)
+Settles (stage.Away clear awaited) one outbox one' outbox' = (one' ≡ one) × (outbox' ≡ outbox)
 Settles (stage.Done trail) one outbox one' outbox' = (one'.request ≡ one.request)
     × Replies one.share (answer_of trail) outbox one'.share outbox'
 

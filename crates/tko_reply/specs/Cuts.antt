@@ -40,7 +40,7 @@ pub record EndsBy (targets : List ℕ) (form : ℕ → Request) (calls : List Ro
 
 -- the trail with which a routing ended
 abbrev pub IsEndOf : Stage → List Attempt → Type 0
-IsEndOf (stage.Away clear waiting) trail = ⊥
+IsEndOf (stage.Away clear awaited) trail = ⊥
 IsEndOf (stage.Done tried) trail = trail ≡ tried
 
 -- memory ran out where the request of a key began, after these calls and attempts: none; or all

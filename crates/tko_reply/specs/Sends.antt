@@ -10,27 +10,27 @@ use Rattle.tko_route.specs.Underway.{Awaited}
 use Rattle.tko_reply.specs.Standing.{SentKey}
 
 -- a send is out to one of these targets, which are servers
-pub record IsOutTo (config : Configuration) (targets : List ℕ) (waiting : Awaited) : Type 0 where
+pub record IsOutTo (config : Configuration) (targets : List ℕ) (awaited : Awaited) : Type 0 where
   pub within : AreServers config targets
-  pub awaited : IsAwaited targets waiting
+  pub awaits : IsAwaited targets awaited
 
 -- a send is out so; what is sent is some request in the form of its place, and calls of its key
 -- found the server up
 pub record IsSent (config : Configuration) (targets : List ℕ) (it : SentKey) : Type 0 where
-  pub out : IsOutTo config targets it.waiting
+  pub out : IsOutTo config targets it.awaited
   pub original : Request
   pub calls : List RoutedCall
   pub form : it.key.request
-      ≡ form_at config.failover_exptime original (length it.waiting.attempts)
+      ≡ form_at config.failover_exptime original (length it.awaited.attempts)
   pub found : FindsUp (form_at config.failover_exptime original) calls
-      it.waiting.attempts it.waiting.server
+      it.awaited.attempts it.awaited.server
 
 -- what holds of a request and the calls of its key where the send came to this, whatever calls
 -- stood before: the request is in the form of its place, and those calls found its server up
 abbrev pub AfterSend : Configuration → SentKey → Outcome
     → (Request → (List RoutedCall → List RoutedCall) → Type 0) → Type 0
 AfterSend config it outcome Holds = (original : Request) (calls : List RoutedCall)
-    → it.key.request ≡ form_at config.failover_exptime original (length it.waiting.attempts)
+    → it.key.request ≡ form_at config.failover_exptime original (length it.awaited.attempts)
     → FindsUp (form_at config.failover_exptime original) calls
-    it.waiting.attempts it.waiting.server
-    → Holds original (λ more. calls ++ came it.waiting.server it.key.request (Ok outcome) ∷ more)
+    it.awaited.attempts it.awaited.server
+    → Holds original (λ more. calls ++ came it.awaited.server it.key.request (Ok outcome) ∷ more)

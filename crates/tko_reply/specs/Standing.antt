@@ -33,8 +33,8 @@ shifted_key count one = record one { share = shifted_share count one.share }
 
 -- a key whose request was sent to a server, until the outcome is recorded
 pub record SentKey : Type 0 where
-  pub waiting : Awaited
+  pub awaited : Awaited
   pub key : OneKey
 
 abbrev pub asking : Awaited → OneKey → SentKey
-asking waiting one = record { waiting = waiting; key = one }
+asking awaited one = record { awaited = awaited; key = one }

@@ -162,26 +162,26 @@ impl OneKey {
         config: &Config,
         targets: &[usize],
         outbox: &mut Outbox,
-        waiting: AwaitedSend,
+        awaited: AwaitedSend,
         outcome: Outcome,
     ) -> Result<Stage, Dropped>
         requires servers { H.servers health.old ≡ length config.now.addresses }
         requires front { HasFront self.old.share outbox.old }
-        requires out { IsOutTo config.now targets.now waiting }
+        requires out { IsOutTo config.now targets.now awaited }
         ensures ok { IfOk result (λ stage. GoesOn H.steps health.old
-            (λ more. AfterSend config.now (asking waiting self.old) outcome (λ original calls.
+            (λ more. AfterSend config.now (asking awaited self.old) outcome (λ original calls.
             Goes (course_of config.now targets.now self.old original) (calls more) outbox.old
             stage self.new outbox.new)) health.new) }
         ensures err { OnErr result (Extends (front_of self.old.share outbox.old) outbox.new) }
         ensures lost { IfErr result (λ trail. GoesOn H.steps health.old
-            (λ more. AfterSend config.now (asking waiting self.old) outcome (λ original calls.
+            (λ more. AfterSend config.now (asking awaited self.old) outcome (λ original calls.
             EndsBy targets.now (form_at config.now.failover_exptime original) (calls more) trail))
             health.new) }
         ensures servers { H.servers health.new ≡ H.servers health.old }
     {
         let exptime = config.failover_exptime();
         let request = &mut self.request;
-        let stage = waiting.answered(rt, health, targets, request, exptime, outcome);
+        let stage = awaited.answered(rt, health, targets, request, exptime, outcome);
         self.settle(outbox, stage)
     }
 
@@ -194,7 +194,7 @@ impl OneKey {
         ensures lost { IfErr result (λ trail. IsEndOf stage trail) }
     {
         match stage {
-            Stage::Away(clear, waiting) => Ok(Stage::Away(clear, waiting)),
+            Stage::Away(clear, awaited) => Ok(Stage::Away(clear, awaited)),
             Stage::Done(trail) => match self.put(outbox, trail.response()) {
                 Ok(()) => Ok(Stage::Done(trail)),
                 Err(_) => Err(Dropped::after(trail)),

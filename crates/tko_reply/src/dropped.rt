@@ -50,8 +50,8 @@ impl From<NoMemory> for Dropped {
 }
 
 /// Drops a request where memory ran out at its send.
-pub fn stop(waiting: AwaitedSend, fault: tko_links::ExchangeNoMemory) -> Dropped
-    ensures { result ≡ waiting.attempts }
+pub fn stop(awaited: AwaitedSend, fault: tko_links::ExchangeNoMemory) -> Dropped
+    ensures { result ≡ awaited.attempts }
 {
-    Dropped::after(waiting.stop(fault).trail)
+    Dropped::after(awaited.stop(fault).trail)
 }

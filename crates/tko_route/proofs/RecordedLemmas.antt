@@ -63,62 +63,62 @@ ended request count server (attempt.Spent at) got answered fits is replied at_is
     subst (λ (n : ℕ). P got n) at_is (subst (λ (o : Outcome). P o at) same (count, refl))
 
 -- what came of a send, and the call that recorded it, make the attempt
-pub makes_recorded : {form : ℕ → Request} {calls : List RoutedCall} (waiting : Awaited) {all : List Attempt} (it : Attempt) (got : Outcome) (answered : Option Reply)
-    → (IsSome answered ↔ IsSome (op_of got)) → outcome_of it ≡ Some got → recorded_reply it ≡ answered → server_of it ≡ waiting.server
-    → all ≡ waiting.attempts ++ it ∷ [] → FindsUp form calls waiting.attempts waiting.server
-    → MakesTrail form (calls ++ came_of form waiting got ∷ told_of waiting got answered) all
-makes_recorded {form} waiting it got answered fits is replied at e up =
-    let item = came_of form waiting got in
-    let look = look_up waiting.server (reply.Up up.count) in
-    let told = told_of waiting got answered in
-    makes_pushed it (look ∷ item ∷ told) up.make (ended (form (length waiting.attempts)) up.count waiting.server it got answered fits is replied at)
+pub makes_recorded : {form : ℕ → Request} {calls : List RoutedCall} (awaited : Awaited) {all : List Attempt} (it : Attempt) (got : Outcome) (answered : Option Reply)
+    → (IsSome answered ↔ IsSome (op_of got)) → outcome_of it ≡ Some got → recorded_reply it ≡ answered → server_of it ≡ awaited.server
+    → all ≡ awaited.attempts ++ it ∷ [] → FindsUp form calls awaited.attempts awaited.server
+    → MakesTrail form (calls ++ came_of form awaited got ∷ told_of awaited got answered) all
+makes_recorded {form} awaited it got answered fits is replied at e up =
+    let item = came_of form awaited got in
+    let look = look_up awaited.server (reply.Up up.count) in
+    let told = told_of awaited got answered in
+    makes_pushed it (look ∷ item ∷ told) up.make (ended (form (length awaited.attempts)) up.count awaited.server it got answered fits is replied at)
     (ap (λ list. list ++ item ∷ told) up.is ∙ append_assoc up.before (look ∷ []) (item ∷ told)) e
 
 module _ {H : Type 0} {steps : H → HealthItem → H → Type 0} where
   -- what came of a send was an answer
-  pub done_then : (health : H) {attempts trail : List Attempt} (targets : List ℕ) (waiting : Awaited) (got : Outcome) (answered : Option Reply)
+  pub done_then : (health : H) {attempts trail : List Attempt} (targets : List ℕ) (awaited : Awaited) (got : Outcome) (answered : Option Reply)
       → IsTrail targets trail → trail ≡ attempts
-      → ((form : ℕ → Request) (calls : List RoutedCall) → FindsUp form calls waiting.attempts waiting.server
-      → MakesTrail form (calls ++ came_of form waiting got ∷ told_of waiting got answered) attempts)
-      → GoesOn steps health (λ more. (form : ℕ → Request) (calls : List RoutedCall) → FindsUp form calls waiting.attempts waiting.server
-      → Reached targets form (calls ++ came_of form waiting got ∷ (told_of waiting got answered ++ more)) (stage.Done trail)) health
-  done_then health targets waiting got answered whole e make = record {
+      → ((form : ℕ → Request) (calls : List RoutedCall) → FindsUp form calls awaited.attempts awaited.server
+      → MakesTrail form (calls ++ came_of form awaited got ∷ told_of awaited got answered) attempts)
+      → GoesOn steps health (λ more. (form : ℕ → Request) (calls : List RoutedCall) → FindsUp form calls awaited.attempts awaited.server
+      → Reached targets form (calls ++ came_of form awaited got ∷ (told_of awaited got answered ++ more)) (stage.Done trail)) health
+  done_then health targets awaited got answered whole e make = record {
     items = [];
     gains = gains_none health;
     is = λ form calls up.
-        let item = came_of form waiting got in
-        let told = told_of waiting got answered in
+        let item = came_of form awaited got in
+        let told = told_of awaited got answered in
         (whole, rw (e, append-nil told) (make form calls up));
   }
 
   -- health was asked more after it
-  pub then_on : {old new : H} {attempts : List Attempt} (targets : List ℕ) (waiting : Awaited) (got : Outcome) (answered : Option Reply) (to : Stage)
-      → ((form : ℕ → Request) (calls : List RoutedCall) → FindsUp form calls waiting.attempts waiting.server
-      → MakesTrail form (calls ++ came_of form waiting got ∷ told_of waiting got answered) attempts)
+  pub then_on : {old new : H} {attempts : List Attempt} (targets : List ℕ) (awaited : Awaited) (got : Outcome) (answered : Option Reply) (to : Stage)
+      → ((form : ℕ → Request) (calls : List RoutedCall) → FindsUp form calls awaited.attempts awaited.server
+      → MakesTrail form (calls ++ came_of form awaited got ∷ told_of awaited got answered) attempts)
       → GoesOn steps old (λ more. (form : ℕ → Request) (calls : List RoutedCall) → MakesTrail form calls attempts → Reached targets form (calls ++ more) to) new
-      → GoesOn steps old (λ more. (form : ℕ → Request) (calls : List RoutedCall) → FindsUp form calls waiting.attempts waiting.server
-      → Reached targets form (calls ++ came_of form waiting got ∷ (told_of waiting got answered ++ more)) to) new
-  then_on targets waiting got answered to make on = record {
+      → GoesOn steps old (λ more. (form : ℕ → Request) (calls : List RoutedCall) → FindsUp form calls awaited.attempts awaited.server
+      → Reached targets form (calls ++ came_of form awaited got ∷ (told_of awaited got answered ++ more)) to) new
+  then_on targets awaited got answered to make on = record {
     items = on.items;
     gains = on.gains;
     is = λ form calls up.
-        let ended = came_of form waiting got ∷ told_of waiting got answered in
+        let ended = came_of form awaited got ∷ told_of awaited got answered in
         subst (λ list. Reached targets form list to) (append_assoc calls ended (map Told on.items))
         (on.is form (calls ++ ended) (make form calls up));
   }
 
   -- the call that recorded it was one of its own
-  pub record_then : {old mid new : H} (targets : List ℕ) (waiting : Awaited) (got : Outcome) (answered : Option Reply) (to : Stage)
-      → IsRecorded steps old waiting.server (op_of got) answered mid
-      → GoesOn steps mid (λ more. (form : ℕ → Request) (calls : List RoutedCall) → FindsUp form calls waiting.attempts waiting.server
-      → Reached targets form (calls ++ came_of form waiting got ∷ (told_of waiting got answered ++ more)) to) new
-      → GoesOn steps old (λ more. (form : ℕ → Request) (calls : List RoutedCall) → FindsUp form calls waiting.attempts waiting.server
-      → Reached targets form (calls ++ came_of form waiting got ∷ more) to) new
-  record_then targets waiting got answered to recorded on =
-      let first = record_of waiting.server (op_of got) answered in record {
+  pub record_then : {old mid new : H} (targets : List ℕ) (awaited : Awaited) (got : Outcome) (answered : Option Reply) (to : Stage)
+      → IsRecorded steps old awaited.server (op_of got) answered mid
+      → GoesOn steps mid (λ more. (form : ℕ → Request) (calls : List RoutedCall) → FindsUp form calls awaited.attempts awaited.server
+      → Reached targets form (calls ++ came_of form awaited got ∷ (told_of awaited got answered ++ more)) to) new
+      → GoesOn steps old (λ more. (form : ℕ → Request) (calls : List RoutedCall) → FindsUp form calls awaited.attempts awaited.server
+      → Reached targets form (calls ++ came_of form awaited got ∷ more) to) new
+  record_then targets awaited got answered to recorded on =
+      let first = record_of awaited.server (op_of got) answered in record {
         items = first ++ on.items;
-        gains = gains_append (gains_recorded waiting.server (op_of got) answered recorded) on.gains;
+        gains = gains_append (gains_recorded awaited.server (op_of got) answered recorded) on.gains;
         is = λ form calls up.
-            subst (λ told. Reached targets form (calls ++ came_of form waiting got ∷ told) to)
+            subst (λ told. Reached targets form (calls ++ came_of form awaited got ∷ told) to)
             (sym (map-append Told first on.items)) (on.is form calls up);
       }

@@ -79,15 +79,15 @@ servers_pushed : (targets : List ℕ) (trail : List Attempt) (last : Attempt)
 servers_pushed targets trail last before shorter at = grind (arith, common_steps)
 
 -- one attempt more, at the server that was waited for
-pub concluded_again : {targets : List ℕ} {waiting : Awaited} {trail : List Attempt} (last : Attempt)
-    → IsAwaited targets waiting → server_of last ≡ waiting.server
-    → trail ≡ waiting.attempts ++ last ∷ [] → IsConcluded targets trail
-concluded_again {targets} {waiting} {trail} last awaited at parts =
+pub concluded_again : {targets : List ℕ} {awaited : Awaited} {trail : List Attempt} (last : Attempt)
+    → IsAwaited targets awaited → server_of last ≡ awaited.server
+    → trail ≡ awaited.attempts ++ last ∷ [] → IsConcluded targets trail
+concluded_again {targets} {awaited} {trail} last out at parts =
     let P : List Attempt → Type 0 = λ list. map server_of list ≡ take (length list) targets in
     let Q : List Attempt → Type 0 = λ list. NoneAnswered list ⊎ LastAnswered list in
     record {
-      servers = subst P (sym parts) (servers_pushed targets waiting.attempts last awaited.tried.servers awaited.tried.shorter (at ∙ awaited.server));
-      answers = subst Q (sym parts) (answers_pushed waiting.attempts last awaited.tried.unanswered);
+      servers = subst P (sym parts) (servers_pushed targets awaited.attempts last out.tried.servers out.tried.shorter (at ∙ out.server));
+      answers = subst Q (sym parts) (answers_pushed awaited.attempts last out.tried.unanswered);
     }
 
 -- attempts of which the last was answered are a trail
@@ -135,18 +135,18 @@ module _ {H : Type 0} {steps : H → HealthItem → H → Type 0} where
       }
 
   -- then a server was found up
-  pub found_up : {old mid new : H} {was : List Attempt} {targets : List ℕ} {clear : ℕ} (waiting : Awaited) (count : ℕ)
-      → IsAwaited targets waiting → clear ≡ waiting.server
-      → GoesOn steps old (λ more. (form : ℕ → Request) (calls : List RoutedCall) → MakesTrail form calls was → MakesTrail form (calls ++ more) waiting.attempts) mid
-      → steps mid (Called LookUp waiting.server (reply.Up count)) new
-      → GoesOn steps old (λ more. (form : ℕ → Request) (calls : List RoutedCall) → MakesTrail form calls was → Reached targets form (calls ++ more) (stage.Away clear waiting)) new
-  found_up waiting count awaited names on step =
-      let item = Called LookUp waiting.server (reply.Up count) in
+  pub found_up : {old mid new : H} {was : List Attempt} {targets : List ℕ} {clear : ℕ} (awaited : Awaited) (count : ℕ)
+      → IsAwaited targets awaited → clear ≡ awaited.server
+      → GoesOn steps old (λ more. (form : ℕ → Request) (calls : List RoutedCall) → MakesTrail form calls was → MakesTrail form (calls ++ more) awaited.attempts) mid
+      → steps mid (Called LookUp awaited.server (reply.Up count)) new
+      → GoesOn steps old (λ more. (form : ℕ → Request) (calls : List RoutedCall) → MakesTrail form calls was → Reached targets form (calls ++ more) (stage.Away clear awaited)) new
+  found_up awaited count out names on step =
+      let item = Called LookUp awaited.server (reply.Up count) in
       record {
         items = on.items ++ item ∷ [];
         gains = gains_push on.gains step;
         is = λ form calls make. (
-          awaited,
+          out,
           names,
           record { before = calls ++ map Told on.items; make = on.is form calls make; count = count; is = one_told calls on.items item },
         );

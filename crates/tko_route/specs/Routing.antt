@@ -21,10 +21,10 @@ pub record IsConcluded (targets : List ℕ) (trail : List Attempt) : Type 0 wher
   pub answers : NoneAnswered trail ⊎ LastAnswered trail
 
 -- the request was sent to the target after those of the attempts, of which none was answered
-pub record IsAwaited (targets : List ℕ) (waiting : Awaited) : Type 0 where
-  pub tried : IsCutTrail targets waiting.attempts
-  pub room : length targets ≤ waiting.room
-  pub server : waiting.server ≡ next_target targets waiting.attempts
+pub record IsAwaited (targets : List ℕ) (awaited : Awaited) : Type 0 where
+  pub tried : IsCutTrail targets awaited.attempts
+  pub room : length targets ≤ awaited.room
+  pub server : awaited.server ≡ next_target targets awaited.attempts
 
 -- attempts at targets in order, of which none was answered
 pub record IsTried (targets : List ℕ) (trail : List Attempt) : Type 0 where
@@ -48,13 +48,13 @@ pub record GoesOn {H : Type 0} (steps : H → HealthItem → H → Type 0) (old 
 
 -- what came of a send that was out, with the request in the form of its place
 abbrev pub came_of : (ℕ → Request) → Awaited → Outcome → RoutedCall
-came_of form waiting outcome =
-    came waiting.server (form (length waiting.attempts)) (Ok outcome)
+came_of form awaited outcome =
+    came awaited.server (form (length awaited.attempts)) (Ok outcome)
 
 -- the call that recorded what came of a send that was out, with its reply, if the table of outcomes
 -- names one
 abbrev pub told_of : Awaited → Outcome → Option Reply → List RoutedCall
-told_of waiting outcome reply = map Told (record_of waiting.server (op_of outcome) reply)
+told_of awaited outcome reply = map Told (record_of awaited.server (op_of outcome) reply)
 
 -- a request that had the form of one place has that of another
 abbrev pub IsBrought : ℕ → Request × ℕ → Request × ℕ → Type 0
@@ -64,17 +64,17 @@ IsBrought exptime old new = (original : Request)
 -- how far a routing came by these calls: the next target was found up, and the permission names it;
 -- or a target answered, or all were tried
 abbrev pub Reached : List ℕ → (ℕ → Request) → List RoutedCall → Stage → Type 0
-Reached targets form calls (stage.Away clear waiting) =
-    IsAwaited targets waiting × (clear ≡ waiting.server)
-    × FindsUp form calls waiting.attempts waiting.server
+Reached targets form calls (stage.Away clear awaited) =
+    IsAwaited targets awaited × (clear ≡ awaited.server)
+    × FindsUp form calls awaited.attempts awaited.server
 Reached targets form calls (stage.Done trail) = IsTrail targets trail × MakesTrail form calls trail
 
 -- how many attempts there are
 abbrev pub tries : Stage → ℕ
-tries (stage.Away clear waiting) = length waiting.attempts
+tries (stage.Away clear awaited) = length awaited.attempts
 tries (stage.Done trail) = length trail
 
 -- the place of the target that was looked at last
 abbrev pub last_place : Stage → ℕ
-last_place (stage.Away clear waiting) = length waiting.attempts
+last_place (stage.Away clear awaited) = length awaited.attempts
 last_place (stage.Done trail) = length trail - 1

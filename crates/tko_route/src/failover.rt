@@ -48,11 +48,11 @@ pub fn route<R: IoRuntime, H: Health, L: Links>(
     loop {
         match stage {
             Stage::Done(trail) => return Ok(Routed { trail }),
-            Stage::Away(clear, waiting) => match links.exchange(rt, clear, request) {
+            Stage::Away(clear, awaited) => match links.exchange(rt, clear, request) {
                 Ok(outcome) => {
-                    stage = waiting.answered(rt, health, targets, request, exptime, outcome);
+                    stage = awaited.answered(rt, health, targets, request, exptime, outcome);
                 }
-                Err(fault) => return Err(waiting.stop(fault)),
+                Err(fault) => return Err(awaited.stop(fault)),
             },
         }
     }

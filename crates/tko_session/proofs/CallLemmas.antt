@@ -55,7 +55,7 @@ module _ {H : Type 0} {steps : H → HealthItem → H → Type 0} {P : List Rout
 -- the key that is at work
 pub key_of_work : (key : OneKey) (at : KeyWait) → key_in (key_work key at) ≡ Some key
 key_of_work key wait.Read = refl
-key_of_work key (wait.Sent waiting) = refl
+key_of_work key (wait.Sent awaited) = refl
 key_of_work key wait.Tried = refl
 
 -- one send is out
@@ -65,13 +65,13 @@ awaits_same it other same = cc
 pub read_work : (key : OneKey) (at : KeyWait) → IsSome (work.request_read_in (key_work key at))
     → key_work key at ≡ work.Read key
 read_work key wait.Read some = refl
-read_work key (wait.Sent waiting) some = absurd (cc some)
+read_work key (wait.Sent awaited) some = absurd (cc some)
 read_work key wait.Tried some = absurd (cc some)
 
 pub ended_work : (key : OneKey) (at : KeyWait) → IsSome (work.ended_in (key_work key at))
     → key_work key at ≡ work.Ended key
 ended_work key wait.Read some = absurd (cc some)
-ended_work key (wait.Sent waiting) some = absurd (cc some)
+ended_work key (wait.Sent awaited) some = absurd (cc some)
 ended_work key wait.Tried some = refl
 
 -- the session after a call, field by field

@@ -42,12 +42,12 @@ data MayGo (plan : KeyPlan) (config : Configuration) (it : Life)
       → IsPastAt config old state.owes last state → MayGo plan config it state
 
 -- a send of a session is out
-record IsWaiting (plan : KeyPlan) (config : Configuration) (it : Life) (state : SessionState)
+record HasSendOut (plan : KeyPlan) (config : Configuration) (it : Life) (state : SessionState)
     (sent : SentKey) : Type 0 where
   old : SessionState
   last : List Interaction
   from : IsFrom plan config it old last
-  out : IsOutAt config old state.owes last sent.waiting.server sent state
+  out : IsOutAt config old state.owes last sent.awaited.server sent state
 
 module _ {plan : KeyPlan} {keys : Option KeysState} {config : Configuration} where
   -- the session before the request under way was read
@@ -96,10 +96,10 @@ module _ {plan : KeyPlan} {keys : Option KeysState} {config : Configuration} whe
       })
   may_go work.HandedOver s is may = absurd may
 
-  waiting : {it : Life} {state : SessionState} (sent : SentKey)
+  awaited : {it : Life} {state : SessionState} (sent : SentKey)
       → IsClientOpen plan keys config it state → state.work ≡ work.Awaits sent
-      → IsWaiting plan config it state sent
-  waiting {it} {state} sent s is =
+      → HasSendOut plan config it state sent
+  awaited {it} {state} sent s is =
       let on = open_on (work.Awaits sent) s is (between_or_awaits sent) in
       let far : IsSentFor config on.under sent state.targets state.outbox = on.far in
       record {
@@ -160,7 +160,7 @@ module _ {plan : KeyPlan} {keys : Option KeysState} {config : Configuration} whe
       → state.work ≡ work.Awaits sent → AwaitedTaken config got state calls said new
       → Gone plan keys config it (came_to sent (Ok got) ∷ map Made calls) said new
   took_open {calls = calls} {said = said} sent got s is took =
-      let at = waiting sent s is in
+      let at = awaited sent s is in
       item_open keys (came_to sent (Ok got) ∷ map Made calls) said at.from
       (out_took at.out (took sent is))
 
@@ -201,21 +201,21 @@ module _ {plan : KeyPlan} {keys : Option KeysState} {config : Configuration} whe
       (lost_from calls attempts new (may_go state.work s refl
       (lost_may config state.work state calls attempts new lost)) lost)
   loses {it} {new = new} s (act.took sent got calls attempts is lost are) =
-      let at = waiting sent s is in
+      let at = awaited sent s is in
       subst (λ ds. IsClientShort plan config (did it ds) new) (sym are)
       (cut_short (more_from (came_to sent (Ok got) ∷ (map Made calls ++ marks_of attempts)) at.from)
       (out_cut at.out (lost sent is)))
   loses {it} {new = new} s (act.stopped sent was_sent is same are) =
-      let at = waiting sent s is in
+      let at = awaited sent s is in
       subst (λ ds. IsClientShort plan config (did it ds) new) (sym are)
       (cut_short (more_from (came_to sent (Err (record { sent = was_sent }))
-      ∷ Noted sent.waiting.attempts ∷ []) at.from) (out_stopped was_sent at.out same))
+      ∷ Noted sent.awaited.attempts ∷ []) at.from) (out_stopped was_sent at.out same))
   loses {it} {state} {new = new} s (act.went_unrecorded calls said mid on records same are) =
       subst (λ ds. IsClientShort plan config (did it ds) new) (sym are)
       (kept_from calls said mid new (may_go state.work s refl
       (went_may config state.work state calls said mid on)) on records same)
   loses {it} {new = new} s (act.took_unrecorded sent got calls said mid is took records same are) =
-      let at = waiting sent s is in
+      let at = awaited sent s is in
       subst (λ ds. IsClientShort plan config (did it ds) new) (sym are)
       (unrecorded_short (came_to sent (Ok got) ∷ map Made calls) said at.from
       (out_took at.out (took sent is)) records same)

@@ -152,7 +152,7 @@ module _ {H L T C : Type 0} (health : HealthGhosts H) (links : LinksGhosts L)
       → Gains (Interacts (parts_ghosts health links trails clock)) old.parts done now.parts
       → IsItemAt old.parts.config old.state true done (step_of at) now.state
       → IsOnAt health links trails clock old (step_of at) now
-  key_on {done} old now (stage.Away clear waiting) gains it =
+  key_on {done} old now (stage.Away clear awaited) gains it =
       record { done = done; gains = gains; sent = it.0; at = it.1.at; out = it.1 }
   key_on {done} old now (stage.Done trail) gains it =
       record { done = done; gains = gains; tried = it }

@@ -143,7 +143,7 @@ module _ {H L T C : Type 0} (health : HealthGhosts H) (links : LinksGhosts L)
         result = Err (record { sent = was_sent });
       }) mid
       → ((server : ℕ) → links.probed mid server ≡ links.probed now.parts.backend.links server)
-      → new ≡ dropped now.state → attempts ≡ out.sent.waiting.attempts
+      → new ≡ dropped now.state → attempts ≡ out.sent.awaited.attempts
       → IsCut health links trails clock old
       (snapshot new (with_noted attempts (with_links mid now.parts)))
   stop_cut {old} {now} {clear} {mid} {was_sent} {attempts} {new} none out exchange unprobed is
@@ -153,12 +153,12 @@ module _ {H L T C : Type 0} (health : HealthGhosts H) (links : LinksGhosts L)
       let sent : Interacts ghosts now.parts
       (came_to it (Err (record { sent = was_sent }))) (with_links mid now.parts) =
       (sent_to out.out.stands.reached.1 exchange, unprobed, refl) in
-      let noted : Interacts ghosts (with_links mid now.parts) (Noted it.waiting.attempts)
-      (with_noted it.waiting.attempts (with_links mid now.parts)) = refl in
+      let noted : Interacts ghosts (with_links mid now.parts) (Noted it.awaited.attempts)
+      (with_noted it.awaited.attempts (with_links mid now.parts)) = refl in
       subst (λ marked. IsCut health links trails clock old
       (snapshot new (with_noted marked (with_links mid now.parts)))) (sym attempts_are)
       (cut_item health links trails clock
-      {new = snapshot new (with_noted it.waiting.attempts (with_links mid now.parts))} none
+      {new = snapshot new (with_noted it.awaited.attempts (with_links mid now.parts))} none
       (gains_append out.gains (gains_append (gains_one sent) (gains_one noted)))
       (out_stopped was_sent out.out is))
 
@@ -199,7 +199,7 @@ module _ {H L T C : Type 0} (health : HealthGhosts H) (links : LinksGhosts L)
         result = Err (record { sent = was_sent });
       }) mid
       → ((server : ℕ) → links.probed mid server ≡ links.probed now.parts.backend.links server)
-      → new ≡ dropped now.state → attempts ≡ out.sent.waiting.attempts
+      → new ≡ dropped now.state → attempts ≡ out.sent.awaited.attempts
       → IsCut health links trails clock old (snapshot new (with_noted attempts sent))
   stop_cut_after {old} {now} {sent} {clear} {mid} {was_sent} {attempts}
       {new} is none out exchange unprobed was_dropped attempts_are =

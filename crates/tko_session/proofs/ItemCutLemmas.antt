@@ -154,7 +154,7 @@ module _ {config : Configuration} {old : SessionState} {owes : Bool} where
   out_cut {sent = sent} {now = now} {got = got} {calls = calls} {attempts = attempts}
       {new = new} out gone =
       let sending = out.stands in
-      let call = came sent.waiting.server sent.key.request (Ok got) in
+      let call = came sent.awaited.server sent.key.request (Ok got) in
       let form = form_in config sending.first.request in
       let ends = gone.lost (without_noreply sending.first.request) sending.calls
       (ap (λ (o : OneKey). o.request) sending.keeps) sending.reached.2 in
@@ -172,9 +172,9 @@ module _ {config : Configuration} {old : SessionState} {owes : Bool} where
       (was_sent : Bool)
       → IsOutAt config old owes done clear sent now → new ≡ dropped now
       → IsCutAt config old owes (done
-      ++ came_to sent (Err (record { sent = was_sent })) ∷ Noted sent.waiting.attempts ∷ []) new
+      ++ came_to sent (Err (record { sent = was_sent })) ∷ Noted sent.awaited.attempts ∷ []) new
   out_stopped {sent = sent} {now = now} {new = new} was_sent out same =
-      dropped_item (came_to sent (Err (record { sent = was_sent })) ∷ Noted sent.waiting.attempts
+      dropped_item (came_to sent (Err (record { sent = was_sent })) ∷ Noted sent.awaited.attempts
       ∷ []) now.outbox new out.are out.under (at_extends out.stands.at)
       (sent_cut was_sent out.stands) refl same
 

@@ -70,9 +70,9 @@ module _ {config : Configuration} {old : SessionState} {owes : Bool} where
       → Stands config it old.outbox at one targets was outbox → said ≡ step_of at
       → new ≡ went at one (record now { outbox = outbox; targets = targets })
       → IsItem config old owes done said new
-  key_item {it} {was} (stage.Away clear waiting) one targets outbox are by_key under stands says
+  key_item {it} {was} (stage.Away clear awaited) one targets outbox are by_key under stands says
       is = said_so says is (
-        asking waiting one,
+        asking awaited one,
         record {
           it = it;
           was = was;
@@ -190,7 +190,7 @@ module _ {config : Configuration} {old : SessionState} {owes : Bool} where
       → IsItem config old owes (done ++ came_to sent (Ok got) ∷ map Made calls) said new
   out_took {sent = sent} {now = now} {got = got} {calls = calls} {new = new} out taken =
       let sending = out.stands in
-      let call = came sent.waiting.server sent.key.request (Ok got) in
+      let call = came sent.awaited.server sent.key.request (Ok got) in
       let goes = taken.goes (without_noreply sending.first.request) sending.calls
       (ap (λ (o : OneKey). o.request) sending.keeps) sending.reached.2 in
       key_item taken.at taken.key now.targets new.outbox

@@ -32,7 +32,7 @@ may_between state count is = subst (λ (w : Work). AreOutgoingIn w state.begin c
 pub outgoing_at : (begin : ℕ) (outbox : List ℕ) (key : OneKey) (at : KeyWait)
     → outgoing_in (key_work key at) begin outbox ≡ take begin outbox
 outgoing_at begin outbox key wait.Read = refl
-outgoing_at begin outbox key (wait.Sent waiting) = refl
+outgoing_at begin outbox key (wait.Sent awaited) = refl
 outgoing_at begin outbox key wait.Tried = refl
 
 -- of the first piece, so many bytes are of the first so many

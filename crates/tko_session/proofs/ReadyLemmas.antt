@@ -34,7 +34,7 @@ use Rattle.tko_session.proofs.BegunLemmas.{begins_first, next_outbox, over_same}
 ready_at : (config : Configuration) (state : SessionState) (at : Stage) (one : OneKey)
     → BeginsAt state.begin one.share state.outbox
     → AwaitsAt config state.targets at one → IsSessionReady config (went at one state)
-ready_at config state (stage.Away clear waiting) one held awaits =
+ready_at config state (stage.Away clear awaited) one held awaits =
     record { begins = held; sent = awaits }
 ready_at config state (stage.Done trail) one held awaits = held
 

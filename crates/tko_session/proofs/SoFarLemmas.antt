@@ -131,7 +131,7 @@ module _ {config : Configuration} where
   -- a send is out for it
   pub to_sending : {it : PendingRequest} {asking : SentKey} {targets outbox : List ℕ}
       → IsSentFor config it asking targets outbox
-      → IsSending config it.request it.front asking.waiting.server asking targets it.done outbox
+      → IsSending config it.request it.front asking.awaited.server asking targets it.done outbox
   to_sending sent = record {
     key = sent.key;
     first = sent.first;

@@ -53,7 +53,7 @@ IsToRecord (step.At progress) = ⊥
 
 -- the send that is out came to this
 abbrev pub came_to : SentKey → Result Outcome ExchangeNoMemory → Interaction
-came_to it result = Made (came it.waiting.server it.key.request result)
+came_to it result = Made (came it.awaited.server it.key.request result)
 
 -- how a client stands after a call that said this: `quit` and a line too long end its session
 abbrev pub phase_after : Step → ClientPhase
@@ -85,7 +85,7 @@ pub data IsLoss (config : Configuration) (old : SessionState) (done : List Inter
       → done ≡ came_to it (Ok outcome) ∷ (map Made calls ++ marks_of attempts)
       → IsLoss config old done new
   stopped : (it : SentKey) (was_sent : Bool) → old.work ≡ work.Awaits it → new ≡ dropped old
-      → done ≡ came_to it (Err (record { sent = was_sent })) ∷ Noted it.waiting.attempts ∷ []
+      → done ≡ came_to it (Err (record { sent = was_sent })) ∷ Noted it.awaited.attempts ∷ []
       → IsLoss config old done new
   went_unrecorded : (calls : List RoutedCall) (said : Step) (mid : SessionState)
       → WentOn config old calls said mid → IsToRecord said → new ≡ dropped mid

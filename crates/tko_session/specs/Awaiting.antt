@@ -5,6 +5,6 @@ use Rattle.tko_session.specs.Working.{Awaits, Between, Ended, HandedOver, Read, 
 abbrev pub awaited_in : Work → Option ℕ
 awaited_in Between = None
 awaited_in (Read one) = None
-awaited_in (Awaits it) = Some it.waiting.server
+awaited_in (Awaits it) = Some it.awaited.server
 awaited_in (Ended one) = None
 awaited_in HandedOver = None

@@ -33,12 +33,12 @@ use Rattle.tko_session.specs.SessionState.{SessionState, progress_after, progres
 
 -- what the session says, where a key came so far
 abbrev pub step_of : Stage → Step
-step_of (stage.Away clear waiting) = step.Asks clear
+step_of (stage.Away clear awaited) = step.Asks clear
 step_of (stage.Done trail) = step.Tried trail
 
 -- what the session is at there, with the key
 abbrev pub work_of : Stage → OneKey → Work
-work_of (stage.Away clear waiting) one = work.Awaits (asking waiting one)
+work_of (stage.Away clear awaited) one = work.Awaits (asking awaited one)
 work_of (stage.Done trail) one = work.Ended one
 
 -- the session there

@@ -38,7 +38,7 @@ shifted_begin count work.HandedOver begin = begin - count
 abbrev pub shifted_work : ℕ → Work → Work
 shifted_work count work.Between = work.Between
 shifted_work count (work.Read one) = work.Read (shifted_key count one)
-shifted_work count (work.Awaits it) = work.Awaits (asking it.waiting (shifted_key count it.key))
+shifted_work count (work.Awaits it) = work.Awaits (asking it.awaited (shifted_key count it.key))
 shifted_work count (work.Ended one) = work.Ended (shifted_key count one)
 shifted_work count work.HandedOver = work.HandedOver
 

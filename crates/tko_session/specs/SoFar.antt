@@ -66,11 +66,11 @@ pub record IsSentFor (config : Configuration) (it : PendingRequest) (asking : Se
   pub asks : AsksForKey it.request (length it.front) key left first
   pub so_far : HasJoined config (record it { done = before }) (key ∷ left) outbox
   pub aims : targets ≡ targets_of config key
-  pub awaits : IsAwaited targets asking.waiting
+  pub awaits : IsAwaited targets asking.awaited
   pub found : FindsUp (form_in config first.request) calls
-      asking.waiting.attempts asking.waiting.server
+      asking.awaited.attempts asking.awaited.server
   pub keeps : asking.key ≡ record {
-    request = form_in config first.request (length asking.waiting.attempts);
+    request = form_in config first.request (length asking.awaited.attempts);
     share = first.share;
   }
   pub are : it.done ≡ before ++ map Made calls

@@ -21,7 +21,7 @@ pub data Work : Type 0 where
 -- with this key, where the session waits for this
 abbrev pub key_work : OneKey → KeyWait → Work
 key_work one wait.Read = Read one
-key_work one (wait.Sent waiting) = Awaits (asking waiting one)
+key_work one (wait.Sent awaited) = Awaits (asking awaited one)
 key_work one wait.Tried = Ended one
 
 abbrev pub work_at : SessionWork → Work
@@ -55,5 +55,5 @@ ended_in HandedOver = None
 
 -- the attempts at the key for which a send is out
 abbrev pub attempts_in : Work → List Attempt
-attempts_in (Awaits it) = it.waiting.attempts
+attempts_in (Awaits it) = it.awaited.attempts
 attempts_in _ = []

@@ -196,7 +196,7 @@ impl Session {
         requires awaiting { IsAwaiting self.old.work }
         ensures dropped { self.new ≡ dropped self.old }
         ensures attempts { (it : SentKey) → self.old.work ≡ Awaits it
-            → result ≡ it.waiting.attempts }
+            → result ≡ it.awaited.attempts }
     {
         let SessionWork::Key(KeyAtWork { key: _, wait }) = &mut self.work else {
             unreachable!();

@@ -47,8 +47,8 @@ impl KeysAtOnce {
         ensures { attempts_last self.now ≡ Some result.now }
     {
         let place = self.due[self.due.len() - 1].place;
-        match &self.slots[place].waiting {
-            Some(waiting) => waiting.attempts(),
+        match &self.slots[place].awaited {
+            Some(awaited) => awaited.attempts(),
             None => &[],
         }
     }

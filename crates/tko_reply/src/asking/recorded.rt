@@ -28,29 +28,29 @@ impl OneKey {
         config: &Config,
         targets: &[usize],
         outbox: &mut Outbox,
-        waiting: AwaitedSend,
+        awaited: AwaitedSend,
         outcome: Outcome,
         reply: Option<Reply>,
     ) -> Result<Stage, Dropped>
         requires servers { H.servers health.old ≡ length config.now.addresses }
         requires front { HasFront self.old.share outbox.old }
-        requires out { IsOutTo config.now targets.now waiting }
+        requires out { IsOutTo config.now targets.now awaited }
         requires replied { IsSome reply ↔ IsSome (op_of outcome) }
         ensures ok { IfOk result (λ stage. GoesOn H.steps health.old
-            (λ more. AfterSend config.now (asking waiting self.old) outcome (λ original calls.
+            (λ more. AfterSend config.now (asking awaited self.old) outcome (λ original calls.
             Goes (course_of config.now targets.now self.old original)
-            (calls (told_of waiting outcome reply ++ more)) outbox.old
+            (calls (told_of awaited outcome reply ++ more)) outbox.old
             stage self.new outbox.new)) health.new) }
         ensures err { OnErr result (Extends (front_of self.old.share outbox.old) outbox.new) }
         ensures lost { IfErr result (λ trail. GoesOn H.steps health.old
-            (λ more. AfterSend config.now (asking waiting self.old) outcome (λ original calls.
+            (λ more. AfterSend config.now (asking awaited self.old) outcome (λ original calls.
             EndsBy targets.now (form_at config.now.failover_exptime original)
-            (calls (told_of waiting outcome reply ++ more)) trail)) health.new) }
+            (calls (told_of awaited outcome reply ++ more)) trail)) health.new) }
         ensures servers { H.servers health.new ≡ H.servers health.old }
     {
         let exptime = config.failover_exptime();
         let request = &mut self.request;
-        let stage = waiting.recorded(rt, health, targets, request, exptime, outcome, reply);
+        let stage = awaited.recorded(rt, health, targets, request, exptime, outcome, reply);
         self.settle(outbox, stage)
     }
 }

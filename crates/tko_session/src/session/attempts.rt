@@ -15,9 +15,9 @@ impl Session {
             SessionWork::Key(
                 KeyAtWork {
                     key: _,
-                    wait: KeyWait::Sent(waiting),
+                    wait: KeyWait::Sent(awaited),
                 },
-            ) => Some(waiting.server()),
+            ) => Some(awaited.server()),
             _ => None,
         }
     }
@@ -30,9 +30,9 @@ impl Session {
             SessionWork::Key(
                 KeyAtWork {
                     key: _,
-                    wait: KeyWait::Sent(waiting),
+                    wait: KeyWait::Sent(awaited),
                 },
-            ) => waiting.attempts(),
+            ) => awaited.attempts(),
             _ => &[],
         }
     }

@@ -94,8 +94,8 @@ impl Session {
             → self.new ≡ went stage one self.old }
     {
         match stage {
-            Stage::Away(clear, waiting) => {
-                self.set_wait(KeyWait::Sent(waiting));
+            Stage::Away(clear, awaited) => {
+                self.set_wait(KeyWait::Sent(awaited));
                 Step::Asks(clear)
             }
             Stage::Done(trail) => {

@@ -51,6 +51,6 @@ returns-in-None-clause-taken g c =
     (sent_to c.args.it.now c.args.server c.in-None.is c.requires.awaits) c.tell_unsent.ensures.room
     (ap (λ s. record c.args.it.now { session = s; told = c.stop_session.new.told })
     c.stop_session.ensures.dropped)
-    (λ it at. c.stop_session.ensures.noted it at ∙ ap (λ p. with_noted it.waiting.attempts p) same)
+    (λ it at. c.stop_session.ensures.noted it at ∙ ap (λ p. with_noted it.awaited.attempts p) same)
     (subst (λ p. HasStayed g.H.Health.servers p c.stop_session.new.parts) same
     c.stop_session.ensures.stays)

@@ -44,7 +44,7 @@ loop-stage-preserved g c =
     let at = subst (λ (s : Stage). Reached c.args.targets.now form so_far.0 s) c.in-Away.is so_far.1 in
     let form_is = subst (λ (s : Stage). c.loop-stage.request ≡ form (last_place s)) c.in-Away.is c.loop-stage.invariant.3 in
     let on = c.answered-stage.ensures.calls in
-    let item = came c.in-Away.waiting.server (form (length c.in-Away.waiting.attempts)) (Ok c.in-Ok-exchange.outcome) in (
+    let item = came c.in-Away.awaited.server (form (length c.in-Away.awaited.attempts)) (Ok c.in-Ok-exchange.outcome) in (
       (
         so_far.0 ++ item ∷ map Told on.items,
         on.is form so_far.0 at.2,

@@ -27,7 +27,7 @@ returns-in-Some c =
     (c.index-2.ensures ∙ ap (λ n. slice_index_or c.self.inside.slots.items n c.index-2.result.now)
     (sym same))
     ∙ ap Some (sym (c.attempts.ensures
-    ∙ ap attempts_of (sym c.in-Some.is ∙ ap (λ (k : KeySlot). k.waiting) c.behind-self-2.view_is)))
+    ∙ ap attempts_of (sym c.in-Some.is ∙ ap (λ (k : KeySlot). k.awaited) c.behind-self-2.view_is)))
 
 pub returns-in-None : goal.returns-in-None
 returns-in-None c =
@@ -40,4 +40,4 @@ returns-in-None c =
     (c.index-2.ensures ∙ ap (λ n. slice_index_or c.self.inside.slots.items n c.index-2.result.now)
     (sym same))
     ∙ ap Some (sym (ap attempts_of
-    (sym c.in-None.is ∙ ap (λ (k : KeySlot). k.waiting) c.behind-self-2.view_is)))
+    (sym c.in-None.is ∙ ap (λ (k : KeySlot). k.awaited) c.behind-self-2.view_is)))

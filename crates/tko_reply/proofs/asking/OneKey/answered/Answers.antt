@@ -9,12 +9,12 @@ returns-clause-ok g c =
     let on = c.answered-stage.ensures in
     both_ok c.settle.result c.settle.ensures.ok c.settle.ensures.same (λ at settles same.
     answered_goes c.args.config.now c.answered-stage.result
-    (asking c.args.waiting c.args.self.now) c.args.targets.now c.args.outcome [] _ _
+    (asking c.args.awaited c.args.self.now) c.args.targets.now c.args.outcome [] _ _
     c.failover_exptime-exptime.ensures on.request on.calls same settles)
 
 pub returns-clause-lost : goal.returns-clause-lost
 returns-clause-lost g c =
     if_err c.settle.result c.settle.ensures.lost (λ trail is.
     answered_lost c.args.config.now c.answered-stage.result
-    (asking c.args.waiting c.args.self.now) c.args.targets.now c.args.outcome [] trail
+    (asking c.args.awaited c.args.self.now) c.args.targets.now c.args.outcome [] trail
     c.answered-stage.ensures.calls is)

@@ -9,14 +9,14 @@ returns-clause-ok g c =
     let on = c.recorded-stage.ensures in
     both_ok c.settle.result c.settle.ensures.ok c.settle.ensures.same (λ at settles same.
     answered_goes c.args.config.now c.recorded-stage.result
-    (asking c.args.waiting c.args.self.now) c.args.targets.now c.args.outcome
-    (told_of c.args.waiting c.args.outcome c.args.reply) _ _ c.failover_exptime-exptime.ensures
+    (asking c.args.awaited c.args.self.now) c.args.targets.now c.args.outcome
+    (told_of c.args.awaited c.args.outcome c.args.reply) _ _ c.failover_exptime-exptime.ensures
     on.request on.calls same settles)
 
 pub returns-clause-lost : goal.returns-clause-lost
 returns-clause-lost g c =
     if_err c.settle.result c.settle.ensures.lost (λ trail is.
     answered_lost c.args.config.now c.recorded-stage.result
-    (asking c.args.waiting c.args.self.now) c.args.targets.now c.args.outcome
-    (told_of c.args.waiting c.args.outcome c.args.reply) trail c.recorded-stage.ensures.calls
+    (asking c.args.awaited c.args.self.now) c.args.targets.now c.args.outcome
+    (told_of c.args.awaited c.args.outcome c.args.reply) trail c.recorded-stage.ensures.calls
     is)
