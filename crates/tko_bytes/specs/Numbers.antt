@@ -1,5 +1,5 @@
--- Numbers: as words of decimal digits, any number of leading zeros, and no sign; and those that stay
--- at their greatest.
+-- Numbers: as words of decimal digits, any number of leading zeros, and no sign; and those that
+-- stay at their greatest.
 use Rattle.std.specs.Prelude.{ℕ, ◌-◌, ◌^◌, min, Bool, ◌&&◌, nat_lt, nat_le, if◌then◌else◌, List, length, Option, Some, None}
 use Rattle.std.specs.Char.{is_ascii_digit}
 use Rattle.std.specs.List.{list_all}

@@ -79,7 +79,8 @@ impl What {
 
     /// A probe of a server, which came to this.
     pub fn of_probe(server: usize, worker: u32, came: &Result<Outcome, ExchangeNoMemory>) -> What
-        ensures { result ≡ What.Server server worker ServerChange.Probed (Some (cause_of came.now)) }
+        ensures { result ≡ What.Server server worker ServerChange.Probed
+            (Some (cause_of came.now)) }
     {
         What::Server {
             server,

@@ -63,8 +63,8 @@ help_of metric.MarkedSince = codes "When a server that is marked was marked."
 help_of metric.WorkerClients = codes "Clients that this event-driven worker serves."
 help_of metric.WorkerConnections =
     codes "Connections of this event-driven worker to servers, made or being made."
-help_of metric.WorkerWaiting =
-    codes "Bytes of replies that this event-driven worker holds for its clients, whole or under way."
+help_of metric.WorkerWaiting = codes
+    "Bytes of replies that this event-driven worker holds for its clients, whole or under way."
 help_of metric.Descriptors = codes "Open file descriptors."
 help_of metric.DescriptorLimit =
     codes "How many file descriptors the process could have open at its start."
