@@ -4,6 +4,9 @@ ghost use Rattle.std.specs.Vec.{vec_len, vec_capacity};
 
 use crate::NoMemory;
 
+/// The greatest capacity that an empty buffer keeps for the next bytes.
+pub const KEPT_CAPACITY: usize = 65_536;
+
 /// Puts the pieces at the end of the buffer, one after another. At an `Err` the buffer holds what
 /// it held.
 pub fn append(out: &mut Vec<u8>, pieces: &[&[u8]]) -> Result<(), NoMemory>

@@ -7,7 +7,7 @@
 //! - `Fields`: fields, which single spaces separate.
 //! - `MAX_PORT`: the greatest port of an address.
 //! - `append`: puts several pieces at the end of a buffer, or none of them; `clear`: empties a
-//!   buffer.
+//!   buffer; `KEPT_CAPACITY`: the greatest capacity that an empty one keeps.
 #![tactic(auto)]
 
 mod addresses;
@@ -19,7 +19,7 @@ mod numbers;
 mod words;
 
 pub use addresses::MAX_PORT;
-pub use appending::{append, clear};
+pub use appending::{KEPT_CAPACITY, append, clear};
 pub use fields::Fields;
 pub use lines::{content, first_line, split_line};
 pub use memory::NoMemory;

@@ -14,7 +14,7 @@ use tko_metrics::Meter;
 pub(crate) const MAX_PENDING: usize = 4096;
 
 /// How often a send is tried: beside another thread's send a channel with room may refuse one.
-const TRIES: u32 = 16;
+const EVENT_SEND_TRIES: u32 = 16;
 
 /// What all ends of a log share.
 #[derive(Drop)]
@@ -132,7 +132,7 @@ impl Log {
         let Some(shared) = &self.shared else {
             return;
         };
-        for _ in 0..TRIES {
+        for _ in 0..EVENT_SEND_TRIES {
             match shared.sender.try_send(rt, event) {
                 Ok(()) => return,
                 Err(TrySendError::Full(_)) => {}

@@ -6,7 +6,7 @@ use crate::{Inlet, IoRuntime, Stop};
 use std::alloc::{AllocError, Global};
 
 /// The greatest piece that is read at once.
-const PIECE: usize = 16_384;
+const MAX_PIECE_BYTES: usize = 16_384;
 
 /// What a read came to.
 #[derive(Clone, Copy, Debug, PartialEq, Eq)]
@@ -23,7 +23,7 @@ pub enum Piece {
 pub fn piece_buffer(alloc: Global) -> Result<Vec<u8>, AllocError>
     ensures { IfOk result (λ buffer. 0 < vec_len buffer) }
 {
-    vec![in alloc; 0u8; PIECE]
+    vec![in alloc; 0u8; MAX_PIECE_BYTES]
 }
 
 /// Reads the next piece. An interrupted read is made again.

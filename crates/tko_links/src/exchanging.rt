@@ -12,6 +12,7 @@ use crate::incoming::IncomingResponse;
 use crate::links::{ExchangeNoMemory, Outcome};
 use crate::wire::{Wire, WireFault};
 use std::alloc::Global;
+use tko_bytes::KEPT_CAPACITY;
 use tko_io::IoRuntime;
 use tko_text::{Request, Response};
 
@@ -161,9 +162,6 @@ pub(crate) struct Buffers {
     incoming: IncomingResponse,
 }
 
-/// The greatest capacity that an empty buffer keeps.
-const KEPT_CAPACITY: usize = 65_536;
-
 impl Buffers {
     pub(crate) fn new(alloc: Global) -> Buffers {
         Buffers {
@@ -184,7 +182,7 @@ impl Buffers {
         }
     }
 
-    /// Gives up room above 64 KiB.
+    /// Gives up room above `KEPT_CAPACITY`.
     pub(crate) fn release(&mut self) {
         tko_bytes::clear(&mut self.text, KEPT_CAPACITY);
         self.incoming.release();

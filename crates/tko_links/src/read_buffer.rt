@@ -7,7 +7,7 @@ use crate::fault::LinkFault;
 use crate::wire::Wire;
 use std::alloc::{AllocError, Global};
 use std::marker::Model;
-use tko_bytes::clear;
+use tko_bytes::{KEPT_CAPACITY, clear};
 use tko_io::IoRuntime;
 use tko_text::{ReadFault, Request, Response};
 
@@ -18,9 +18,6 @@ const FIRST_ROOM: usize = 16_384;
 /// The room for what comes after the least length: the rest of the line `END`, and some bytes that
 /// nobody asked for.
 const END_ROOM: usize = 64;
-
-/// The most room that is kept for the next response. A longer response keeps its bytes.
-const KEPT_ROOM: usize = 65_536;
 
 /// Bytes that came, and free room, which the next response reuses. Contracts see the bytes.
 #[derive(Debug, Drop)]
@@ -62,12 +59,12 @@ impl ReadBuffer {
         self.filled = 0;
     }
 
-    /// Clears it, and gives up room above 64 KiB.
+    /// Clears it, and gives up room above `KEPT_CAPACITY`.
     pub(crate) fn release(&mut self)
         ensures { self.new ≡ [] }
     {
         self.clear();
-        if self.room.len() > KEPT_ROOM {
+        if self.room.len() > KEPT_CAPACITY {
             clear(&mut self.room, 0);
         }
     }
@@ -83,7 +80,7 @@ impl ReadBuffer {
         ensures within { IfOk result (λ found. found.1 ≤ length self.old) }
         ensures err { OnErr result (self.new ≡ self.old) }
     {
-        if self.filled <= KEPT_ROOM {
+        if self.filled <= KEPT_CAPACITY {
             return Response::read(alloc, request, self.as_bytes());
         }
         self.room.truncate(self.filled);

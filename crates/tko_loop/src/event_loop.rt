@@ -31,7 +31,7 @@ const EVENTS: usize = 1_024;
 
 const ADMISSIONS: u32 = 64;
 
-const PIECE: usize = 65_536;
+const READ_BYTES: usize = 65_536;
 
 /// How many milliseconds there are between two walks over the clients.
 const WALK: u64 = 100;
@@ -130,7 +130,7 @@ impl<P: Drop, T: Talking<P> + Drop, K: Drop> EventLoop<T, P, K> {
 fn new_buffer(alloc: Global) -> Result<Vec<u8>, AllocError>
     ensures { IfOk result (λ buffer. 0 < length buffer.items) }
 {
-    vec![in alloc; 0; PIECE]
+    vec![in alloc; 0; READ_BYTES]
 }
 
 impl<P, T: Talking<P> + Drop, K: Drop> EventLoop<T, P, K> {

@@ -25,10 +25,10 @@ const DESCRIPTORS: &str = "/proc/self/fd";
 const RESIDENT: &[u8] = b"VmRSS:\t";
 
 /// A piece of the list of descriptors. The system's call wants room for one name at least.
-const PIECE: usize = 4096;
+const LIST_PIECE_BYTES: usize = 4096;
 
 /// How many pieces a list has at most.
-const PIECES: usize = 100_000;
+const MAX_LIST_PIECES: usize = 100_000;
 
 /// What the system says of the process. Its files are opened once, so that reading them takes no
 /// runtime.
@@ -77,9 +77,9 @@ fn resident_in(text: &[u8]) -> Option<u64> {
 
 /// How many names an open directory has, other than `.` and `..`.
 fn names_in(directory: &File) -> u64 {
-    let mut piece = [0u8; PIECE];
+    let mut piece = [0u8; LIST_PIECE_BYTES];
     let mut names = 0u64;
-    for _ in 0..PIECES {
+    for _ in 0..MAX_LIST_PIECES {
         let count = os::read_dir(directory.as_raw_fd(), &mut piece);
         if count == 0 {
             break;

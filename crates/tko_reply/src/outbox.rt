@@ -19,11 +19,11 @@ const REPLY_BOUND: usize = 65_536;
 /// A shorter text is copied behind the others, since a piece of its own costs one more write.
 const LONG_TEXT: usize = 16_384;
 
-/// The room that an empty outbox keeps at most.
-const KEPT_ROOM: usize = 4_096;
+/// The greatest capacity that an empty outbox keeps.
+const KEPT_OUTBOX_CAPACITY: usize = 4_096;
 
 /// The most bytes that memory can hold.
-const MOST: usize = isize::MAX as usize;
+const MAX_BYTES_IN_MEMORY: usize = isize::MAX as usize;
 
 /// Replies in order. Contracts see their bytes. The written form of a long response is shared with
 /// the response and not copied, as long as no other one follows it.
@@ -122,7 +122,7 @@ impl Outbox {
         ensures ok { OnOk result (self.new ≡ self.old ++ text) }
         ensures err { OnErr result (self.new ≡ self.old) }
     {
-        if self.len() > MOST - text.len() {
+        if self.len() > MAX_BYTES_IN_MEMORY - text.len() {
             return Err(NoMemory);
         }
         append_both(&mut self.before, text_in(&self.long), &self.bytes)?;
@@ -183,7 +183,7 @@ impl Outbox {
         let of_bytes = of_long.saturating_sub(text_in(&self.long).len());
         drop_bytes(&mut self.before, count, 0);
         drop_long(&mut self.long, of_long);
-        drop_bytes(&mut self.bytes, of_bytes, KEPT_ROOM);
+        drop_bytes(&mut self.bytes, of_bytes, KEPT_OUTBOX_CAPACITY);
     }
 }
 

@@ -1,6 +1,6 @@
 //! The clients of the metrics that are connected.
 ghost use Rattle.std.specs.Prelude.{◌≡◌, ◌<◌, ◌≤◌, length};
-ghost use Rattle.tko_scrapes.specs.declared.page_clients.TheConstants.{MOST};
+ghost use Rattle.tko_scrapes.specs.declared.page_clients.TheConstants.{MAX_PAGE_CLIENTS};
 
 use crate::page_client::PageClient;
 use crate::pages::Pages;
@@ -10,13 +10,13 @@ use std::time::Instant;
 
 /// How many clients are connected at most. Their descriptors are among those that a server has to
 /// spare.
-const MOST: usize = 8;
+const MAX_PAGE_CLIENTS: usize = 8;
 
 /// The clients that are connected, those first that came first.
 #[derive(Drop)]
 pub(crate) struct PageClients {
     clients: Vec<PageClient>,
-    ghost few: { length clients.items ≤ MOST },
+    ghost few: { length clients.items ≤ MAX_PAGE_CLIENTS },
 }
 
 impl PageClients {
@@ -29,7 +29,7 @@ impl PageClients {
     /// Whether one more may come: there is a place, or the first one has had its time.
     pub(crate) fn has_room(&self, now: Instant) -> bool {
         match self.clients.first() {
-            Some(first) => self.clients.len() < MOST || first.may_go(now),
+            Some(first) => self.clients.len() < MAX_PAGE_CLIENTS || first.may_go(now),
             None => true,
         }
     }
@@ -37,9 +37,9 @@ impl PageClients {
     /// Adds a client, and closes the first one where there is no place for both. Where memory runs
     /// out, the new one is closed.
     pub(crate) fn add(&mut self, client: PageClient)
-        ensures { length self.new.clients.items ≤ MOST }
+        ensures { length self.new.clients.items ≤ MAX_PAGE_CLIENTS }
     {
-        if self.clients.len() == MOST {
+        if self.clients.len() == MAX_PAGE_CLIENTS {
             self.clients.remove(0);
         }
         let _ = self.clients.push(client);
@@ -63,7 +63,7 @@ impl PageClients {
 
     /// Puts a client back behind the others, unless it is to be closed.
     fn keep(&mut self, client: PageClient, turn: CallEnd, now: Instant)
-        requires { length self.old.clients.items < MOST }
+        requires { length self.old.clients.items < MAX_PAGE_CLIENTS }
     {
         let stays = matches!(turn, CallEnd::Moved | CallEnd::Waits) && !client.is_late(now);
         if stays {

@@ -6,13 +6,13 @@ use std::io;
 use std::io::{ErrorKind, Read, Write};
 
 /// How often a call that was interrupted is made, at most.
-const TRIES: u32 = 16;
+const MAX_INTERRUPTED_CALLS: u32 = 16;
 
 /// Reads to the front of the buffer, and returns how many bytes.
 pub(crate) fn read(stream: &mut TcpStream, buffer: &mut [u8]) -> io::Result<usize>
     ensures { IfOk result (λ count. count ≤ length buffer.new) }
 {
-    for _ in 0..TRIES {
+    for _ in 0..MAX_INTERRUPTED_CALLS {
         match stream.read(buffer) {
             Err(error) if error.kind() == ErrorKind::Interrupted => {}
             done => return done,
@@ -25,7 +25,7 @@ pub(crate) fn read(stream: &mut TcpStream, buffer: &mut [u8]) -> io::Result<usiz
 pub(crate) fn write(stream: &mut TcpStream, text: &[u8]) -> io::Result<usize>
     ensures { IfOk result (λ count. count ≤ length text.now) }
 {
-    for _ in 0..TRIES {
+    for _ in 0..MAX_INTERRUPTED_CALLS {
         match stream.write(text) {
             Err(error) if error.kind() == ErrorKind::Interrupted => {}
             done => return done,

@@ -12,8 +12,8 @@ abbrev pub close_bracket : ℕ
 close_bracket = 93
 
 -- the most addresses of one host that are kept
-abbrev pub most_addresses : ℕ
-most_addresses = 32
+abbrev pub max_host_addresses : ℕ
+max_host_addresses = 32
 
 -- a host as it is looked up: as it is written, or without its brackets
 pub data IsBare (written : List ℕ) (bare : List ℕ) : Type 0 where

@@ -6,10 +6,7 @@ ghost use Rattle.tko_bytes.specs.Lines.{line_feed};
 use memchr::memchr;
 use std::alloc::{AllocError, Global};
 use std::marker::Model;
-use tko_bytes::clear;
-
-/// The greatest capacity that an empty queue keeps.
-const KEPT_CAPACITY: usize = 65_536;
+use tko_bytes::{KEPT_CAPACITY, clear};
 
 /// A queue of bytes that is searched for LF, each byte once. Contracts see the bytes in the queue.
 #[derive(Debug, Drop)]
