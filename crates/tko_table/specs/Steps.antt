@@ -170,10 +170,12 @@ pub record IsAt (view : List PassView) (call : Call) (phase : Phase) : Type 0 wh
   pub alone : view ≡ pass ∷ []
   pub stands : pass.state ≡ InCall call phase
 
--- the same under these settings, or the call begins here with this operation
+-- the same under these settings, or the call begins here with this operation; its server is one of
+-- the table's
 pub record CanLook (s : Settings) (op : Op) (view : List PassView) (call : Call) (phase : Phase)
     : Type 0
   where
+    pub server : call.server < s.servers
     pub pass : PassView
     pub alone : view ≡ pass ∷ []
     pub stands : in_call pass.state op call.server ≡ InCall call phase
@@ -211,6 +213,17 @@ pub record IsWritable (found : ServerState) (mark : Mark) : Type 0 where
   pub expected : IsMark found.mark
   pub new : IsMark mark
   pub below : found.stamp + 1 < stamp_end
+
+-- the step of the call at this phase is the exchange of its server, which is one of the table's and
+-- was found so, for this mark
+pub record IsExchangeAt
+    (s : Settings) (view : List PassView) (call : Call) (phase : Phase) (found : ServerState)
+    (mark : Mark) : Type 0
+  where
+    pub server : call.server < s.servers
+    pub stands : IsAt view call phase
+    pub action : action_of call.number phase ≡ Exchange found mark
+    pub words : IsWritable found mark
 
 -- in this state of the core, which meets the core's invariant, the next step of one of the threads
 -- is its enrolment: it finds this number in the enrolment word, and leaves one more

@@ -4,7 +4,7 @@ ghost use Rattle.std.specs.Prelude.{◌≡◌, ◌<◌, ◌+◌, true, [], drop,
 ghost use Rattle.tko_model.specs.Tracker.{IsFit};
 ghost use Rattle.tko_model.specs.declared.mark.Op.TheVariants as op;
 ghost use Rattle.tko_word.specs.Words.{IsMarkOf, IsWord};
-ghost use Rattle.tko_steps.specs.declared.table.Action.TheVariants.{Exchange, Give, LookAtServer, LookAtSlots, Reserve};
+ghost use Rattle.tko_steps.specs.declared.table.Action.TheVariants.{Give, LookAtServer, LookAtSlots, Reserve};
 ghost use Rattle.tko_steps.specs.declared.table.Observed.TheVariants as seen;
 ghost use Rattle.tko_steps.specs.Table.{action_of};
 ghost use Rattle.tko_steps.specs.declared.phase.Phase.TheVariants.{Start};
@@ -12,7 +12,7 @@ ghost use Rattle.tko_steps.specs.declared.step.StepKind.TheVariants as kind;
 ghost use Rattle.tko_steps.specs.Steps.{is_marked_state, kind_of_exchange};
 ghost use Rattle.tko_table.specs.Passes.{count_enrolled, passes_raised};
 ghost use Rattle.tko_table.specs.Rule.{health_place};
-ghost use Rattle.tko_table.specs.Steps.{CanLook, DrawsNumber, IsAt, IsLook, IsSameSeat, IsShift, IsSound, IsWritable, Looked, Took, is_look_at_slots, is_settle, view_of};
+ghost use Rattle.tko_table.specs.Steps.{CanLook, DrawsNumber, IsAt, IsExchangeAt, IsLook, IsSameSeat, IsShift, IsSound, Looked, Took, is_look_at_slots, is_settle, view_of};
 
 use crate::plays::{
     self, BothAsSeen, BothPasses, ChangesSlots, Exchanges, FailsHard, FailsSoftly, FirstPass,
@@ -32,7 +32,6 @@ impl Words {
     /// then idle, and the phase is `Start`.
     pub fn look(&self, seat: &mut Seat, call: &Call, phase: Phase) -> Observed
         requires seat { seat.old.table_id ≡ self.now.table.shared.table_id }
-        requires server { call.now.server < self.now.settings.servers }
         requires stands { CanLook self.now.settings call.now.op (view_of seat.old) call.now phase }
         requires kind { IsLook (action_of call.now.number phase) }
         ensures seat { IsSameSeat seat.old seat.new }
@@ -50,7 +49,6 @@ impl Words {
     /// makes.
     pub fn look_up(&self, seat: &mut Seat, call: &Call) -> ServerState
         requires seat { seat.old.table_id ≡ self.now.table.shared.table_id }
-        requires server { call.now.server < self.now.settings.servers }
         requires stands { CanLook self.now.settings op.LookUp (view_of seat.old) call.now Start }
         ensures seat { IsSameSeat seat.old seat.new }
         ensures step { Took
@@ -63,7 +61,6 @@ impl Words {
 
     fn look_at_server(&self, seat: &mut Seat, call: &Call, phase: Phase) -> ServerState
         requires seat { seat.old.table_id ≡ self.now.table.shared.table_id }
-        requires server { call.now.server < self.now.settings.servers }
         requires stands { CanLook self.now.settings call.now.op (view_of seat.old) call.now phase }
         requires kind { action_of call.now.number phase ≡ LookAtServer }
         ensures seat { IsSameSeat seat.old seat.new }
@@ -78,7 +75,6 @@ impl Words {
     /// Loads the word of the call's server.
     fn load(&self, seat: &mut Seat, call: &Call, phase: Phase) -> u64
         requires seat { seat.old.table_id ≡ self.now.table.shared.table_id }
-        requires server { call.now.server < self.now.settings.servers }
         requires stands { CanLook self.now.settings call.now.op (view_of seat.old) call.now phase }
         requires kind { action_of call.now.number phase ≡ LookAtServer }
         ensures seat { IsSameSeat seat.old seat.new }
@@ -97,7 +93,6 @@ impl Words {
     /// The same, of a call whose operation is a type.
     fn load_as<O: Operation>(&self, seat: &mut Seat, call: &Call, phase: Phase) -> u64
         requires seat { seat.old.table_id ≡ self.now.table.shared.table_id }
-        requires server { call.now.server < self.now.settings.servers }
         requires stands { CanLook self.now.settings O.op (view_of seat.old) call.now phase }
         requires kind { action_of call.now.number phase ≡ LookAtServer }
         ensures seat { IsSameSeat seat.old seat.new }
@@ -190,11 +185,9 @@ impl Words {
         mark: Mark,
     ) -> bool
         requires seat { seat.old.table_id ≡ self.now.table.shared.table_id }
-        requires server { call.now.server < self.now.settings.servers }
-        requires stands { IsAt (view_of seat.old) call.now phase }
-        requires action { action_of call.now.number phase ≡ Exchange found mark }
+        requires exchange { IsExchangeAt
+            self.now.settings (view_of seat.old) call.now phase found mark }
         requires kind { kind_of_exchange found.mark mark ≡ kind.Count }
-        requires words { IsWritable found mark }
         ensures seat { IsSameSeat seat.old seat.new }
         ensures step { Took
             (view_of seat.old) call.now phase (seen.Done result) (view_of seat.new) }
@@ -212,11 +205,9 @@ impl Words {
         mark: Mark,
     ) -> bool
         requires seat { seat.old.table_id ≡ self.now.table.shared.table_id }
-        requires server { call.now.server < self.now.settings.servers }
-        requires stands { IsAt (view_of seat.old) call.now phase }
-        requires action { action_of call.now.number phase ≡ Exchange found mark }
+        requires exchange { IsExchangeAt
+            self.now.settings (view_of seat.old) call.now phase found mark }
         requires kind { kind_of_exchange found.mark mark ≡ kind.Mark }
-        requires words { IsWritable found mark }
         ensures seat { IsSameSeat seat.old seat.new }
         ensures step { Took
             (view_of seat.old) call.now phase (seen.Done result) (view_of seat.new) }
@@ -234,11 +225,9 @@ impl Words {
         mark: Mark,
     ) -> bool
         requires seat { seat.old.table_id ≡ self.now.table.shared.table_id }
-        requires server { call.now.server < self.now.settings.servers }
-        requires stands { IsAt (view_of seat.old) call.now phase }
-        requires action { action_of call.now.number phase ≡ Exchange found mark }
+        requires exchange { IsExchangeAt
+            self.now.settings (view_of seat.old) call.now phase found mark }
         requires kind { kind_of_exchange found.mark mark ≡ kind.Own }
-        requires words { IsWritable found mark }
         ensures seat { IsSameSeat seat.old seat.new }
         ensures step { Took
             (view_of seat.old) call.now phase (seen.Done result) (view_of seat.new) }
@@ -258,10 +247,8 @@ impl Words {
         mark: Mark,
     ) -> bool
         requires seat { seat.old.table_id ≡ self.now.table.shared.table_id }
-        requires server { call.now.server < self.now.settings.servers }
-        requires stands { IsAt (view_of seat.old) call.now phase }
-        requires kind { action_of call.now.number phase ≡ Exchange found mark }
-        requires words { IsWritable found mark }
+        requires exchange { IsExchangeAt
+            self.now.settings (view_of seat.old) call.now phase found mark }
         ensures seat { IsSameSeat seat.old seat.new }
         ensures step { Took
             (view_of seat.old) call.now phase (seen.Done result) (view_of seat.new) }

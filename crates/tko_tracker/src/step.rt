@@ -2,9 +2,8 @@
 ghost use Rattle.std.specs.Prelude.{◌≡◌, ◌<◌, true};
 ghost use Rattle.tko_steps.specs.Steps.{is_marked_state};
 ghost use Rattle.tko_steps.specs.Table.{action_of};
-ghost use Rattle.tko_steps.specs.declared.table.Action.TheVariants.{Exchange};
 ghost use Rattle.tko_steps.specs.declared.table.Observed.TheVariants as seen;
-ghost use Rattle.tko_table.specs.Steps.{IsAt, IsSameSeat, IsShift, IsWritable, Took, view_of};
+ghost use Rattle.tko_table.specs.Steps.{IsAt, IsExchangeAt, IsSameSeat, IsShift, Took, view_of};
 ghost use Rattle.tko_tracker.specs.Running.{IsReady, TakesStep};
 
 use tko_model::{Mark, ServerState};
@@ -58,10 +57,8 @@ fn exchange(
     mark: Mark,
 ) -> bool
     requires seat { seat.old.table_id ≡ words.now.table.shared.table_id }
-    requires server { call.now.server < words.now.settings.servers }
-    requires stands { IsAt (view_of seat.old) call.now phase }
-    requires action { action_of call.now.number phase ≡ Exchange found mark }
-    requires words { IsWritable found mark }
+    requires exchange { IsExchangeAt
+        words.now.settings (view_of seat.old) call.now phase found mark }
     ensures seat { IsSameSeat seat.old seat.new }
     ensures step { Took (view_of seat.old) call.now phase (seen.Done result) (view_of seat.new) }
     ensures sure { is_marked_state found.mark ≡ true → result ≡ true }

@@ -11,24 +11,24 @@ use Rattle.tko_table.proofs.SharedLemmas.{word-expected}
 use Rattle.tko_table.proofs.words.Words.exchange.Goals as goal
 
 pub place_of-place-requires : goal.place_of-place-requires
-place_of-place-requires c = omega (arith, c.requires.server, c.args.self.now.ranges.servers.1)
+place_of-place-requires c = omega (arith, c.requires.exchange.server, c.args.self.now.ranges.servers.1)
 
 pub compare_exchange-requires : goal.compare_exchange-requires
 compare_exchange-requires c =
     let words = c.args.self.now in
-    let at = c.requires.stands in
-    let on_server = subst (λ (it : Settings). c.args.call.now.server < it.servers) (sym words.key) c.requires.server in (
+    let at = c.requires.exchange.stands in
+    let on_server = subst (λ (it : Settings). c.args.call.now.server < it.servers) (sym words.key) c.requires.exchange.server in (
       c.requires.seat,
-      omega (arith, c.requires.server, words.count, c.place_of-place.ensures),
+      omega (arith, c.requires.exchange.server, words.count, c.place_of-place.ensures),
       allows-exchange_at words.table.shared.key _ _ _ at.pass c.args.call.now c.args.phase
           c.args.found c.args.mark
-          c.word_of-expected.result c.word_after-new.result c.place_of-place.result c.place_of-place.ensures at.alone at.stands c.requires.kind on_server
+          c.word_of-expected.result c.word_after-new.result c.place_of-place.result c.place_of-place.ensures at.alone at.stands c.requires.exchange.action on_server
           c.word_of-expected.ensures.valid c.word_of-expected.ensures.back c.word_after-new.ensures.valid c.word_after-new.ensures.back,
     )
 
 pub returns-clause-step : goal.returns-clause-step
 returns-clause-step c =
-    let at = c.requires.stands in
+    let at = c.requires.exchange.stands in
     let told = c.compare_exchange.ensures.2.0 in
     let P : Observed → Type 0 = λ it.
     Took (view_of c.args.seat.now) c.args.call.now c.args.phase it (view_of c.compare_exchange.new.seat) in
@@ -36,13 +36,13 @@ returns-clause-step c =
     let tests = c.is_won.ensures ∙ word-expected c.compare_exchange.result c.word_of-expected.result c.args.found told.valid
     c.word_of-expected.ensures.valid c.word_of-expected.ensures.back in
     subst P (ap read.Done (sym tests))
-    (subst Q c.requires.kind (told.plays at.pass c.args.call.now c.args.phase at.alone at.stands))
+    (subst Q c.requires.exchange.action (told.plays at.pass c.args.call.now c.args.phase at.alone at.stands))
 
 pub returns-clause-own : goal.returns-clause-own
 returns-clause-own c = λ marked.
-    let at = c.requires.stands in
+    let at = c.requires.exchange.stands in
     let told = c.compare_exchange.ensures.2.0 in
-    let stands = told.stands at.pass c.args.call.now c.args.phase c.args.found c.args.mark at.alone c.place_of-place.ensures at.stands c.requires.kind marked in
+    let stands = told.stands at.pass c.args.call.now c.args.phase c.args.found c.args.mark at.alone c.place_of-place.ensures at.stands c.requires.exchange.action marked in
     c.is_won.ensures
     ∙ word-expected c.compare_exchange.result c.word_of-expected.result c.args.found told.valid
     c.word_of-expected.ensures.valid c.word_of-expected.ensures.back
