@@ -23,8 +23,22 @@ fn connect(address: &str) -> TcpStream {
 fn exchange(stream: &mut TcpStream, exchange: &Exchange, room: &mut Vec<u8>) {
     stream.write_all(&exchange.request).expect("write");
     room.resize(exchange.answer.len(), 0);
-    stream.read_exact(room).expect("read");
-    assert!(*room == exchange.answer, "a wrong answer: {}", String::from_utf8_lossy(room));
+    read_due(stream, &exchange.answer, room);
+}
+
+/// Reads the answer that is due, and compares each part as it comes: an error line is shorter than the values in its
+/// place, and more than it would be waited for until the time limit.
+fn read_due(stream: &mut TcpStream, due: &[u8], room: &mut [u8]) {
+    let mut read = 0;
+    while read < due.len() {
+        let more = stream
+            .read(&mut room[read..])
+            .unwrap_or_else(|fault| panic!("no answer after {} of {} bytes: {}", read, due.len(), fault));
+        assert!(more > 0, "the connection was closed after {} of {} bytes", read, due.len());
+        let end = read + more;
+        assert!(room[read..end] == due[read..end], "a wrong answer: {}", String::from_utf8_lossy(&room[..end]));
+        read = end;
+    }
 }
 
 fn keep_busy(address: &str, exchanges: &Exchanges, seed: u64, begin: &Barrier, time: Duration) -> u64 {
