@@ -9,8 +9,9 @@ ghost use Rattle.tko_client.specs.Answerings.{IsAnsweringReady, IsClientIdle, Ma
 ghost use Rattle.tko_client.specs.Answerings.{asked_by, awaited_by_client, client_at};
 ghost use Rattle.tko_client.specs.Answerings.{held_by_client, waited_by};
 
+use crate::boxed_keys::BoxedKeys;
 use std::alloc::Global;
-use tko_keys::{KeyPlan, KeysAtOnce};
+use tko_keys::KeyPlan;
 use tko_session::Session;
 use tko_text::Request;
 
@@ -19,7 +20,7 @@ use tko_text::Request;
 #[derive(Drop)]
 pub(crate) struct Answering {
     pub session: Session,
-    pub keys: Option<KeysAtOnce>,
+    pub keys: Option<BoxedKeys>,
     /// How the keys of a request may be sent.
     pub plan: KeyPlan,
     /// How many of the attempts at the session's key were told.
@@ -48,7 +49,7 @@ impl Answering {
         ensures none { OnFalse result (awaited_by_client self.now ≡ []) }
     {
         match &self.keys {
-            Some(keys) => keys.is_asking(),
+            Some(keys) => keys.get().is_asking(),
             None => self.session.awaited().is_some(),
         }
     }
@@ -58,7 +59,7 @@ impl Answering {
         ensures { OnTrue result (MayCallClient self.now) }
     {
         match &self.keys {
-            Some(keys) => keys.next_send().is_some() || keys.may_begin(),
+            Some(keys) => keys.get().next_send().is_some() || keys.get().may_begin(),
             None => false,
         }
     }
@@ -69,7 +70,7 @@ impl Answering {
         ensures { asked_by self.now ≡ Some result.now }
     {
         match &self.keys {
-            Some(keys) => keys.request(),
+            Some(keys) => keys.get().request(),
             None => self.session.request(),
         }
     }
@@ -80,7 +81,7 @@ impl Answering {
         ensures { waited_by self.now server ≡ Some result.now }
     {
         match &self.keys {
-            Some(keys) => keys.request_to(server),
+            Some(keys) => keys.get().request_to(server),
             None => self.session.request(),
         }
     }
@@ -91,7 +92,7 @@ impl Answering {
     {
         let held = self.session.held();
         match &self.keys {
-            Some(keys) => held.saturating_add(keys.held()),
+            Some(keys) => held.saturating_add(keys.get().held()),
             None => held,
         }
     }

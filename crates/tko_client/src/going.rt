@@ -87,6 +87,7 @@ fn call_once<R: IoRuntime, H: Health, T: Trails, C>(
 {
     match &mut it.keys {
         Some(keys) => {
+            let keys = keys.get_mut();
             if let Some(server) = keys.next_send() {
                 let sending = keys.send(alloc, server);
                 Went::Asks(sending.clear)

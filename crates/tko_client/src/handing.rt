@@ -3,9 +3,9 @@ ghost use Rattle.std.specs.Prelude.{◌≡◌, IfNone, IfSome};
 ghost use Rattle.tko_client.specs.Handings.{AreKeysComplete, HasEndedKeys, HasHanded};
 
 use crate::answering::Answering;
+use crate::boxed_keys::BoxedKeys;
 use crate::calls::Went;
 use std::alloc::Global;
-use tko_keys::KeysAtOnce;
 
 /// Hands over the request that was read, where it is one for several keys of which more than one
 /// may be under way at once.
@@ -19,7 +19,7 @@ pub(crate) fn hand_over(alloc: Global, it: &mut Answering) -> Option<Went>
     let Some(request) = it.session.hand_over() else {
         return None;
     };
-    match KeysAtOnce::new(alloc, request, it.plan) {
+    match BoxedKeys::new(alloc, request, it.plan) {
         Ok(keys) => {
             it.keys = Some(keys);
             Some(Went::On)
@@ -40,6 +40,7 @@ pub(crate) fn end_keys(it: &mut Answering) -> Went
     let Some(keys) = it.keys.take() else {
         unreachable!();
     };
+    let keys = keys.into_inner();
     if keys.is_lost() {
         it.session.drop_request();
         return Went::Short;

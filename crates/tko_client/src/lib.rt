@@ -10,6 +10,7 @@
 
 mod answering;
 mod arriving;
+mod boxed_keys;
 mod calls;
 mod client;
 mod counting;

@@ -93,7 +93,7 @@ fn take_in<R: IoRuntime, H: Health, T: Trails, C>(
 {
     match &mut it.keys {
         Some(keys) => {
-            take_keys(rt, alloc, keys, parts, server, outcome);
+            take_keys(rt, alloc, keys.get_mut(), parts, server, outcome);
             Went::On
         }
         None => {
@@ -127,7 +127,7 @@ fn stop<R: IoRuntime, H: Health, T: Trails, C>(
     tell_unsent(rt, parts, server);
     match &mut it.keys {
         Some(keys) => {
-            stop_keys(rt, alloc, keys, parts, server, unsent);
+            stop_keys(rt, alloc, keys.get_mut(), parts, server, unsent);
             Went::On
         }
         None => {
