@@ -6,7 +6,7 @@ use Rattle.tko_text.specs.declared.request.Request.{Request}
 use Rattle.tko_pipe.specs.declared.waiter.Asker.TheVariants as asker
 use Rattle.tko_pipe.specs.declared.waiter.Waiter.{Waiter}
 use Rattle.tko_pipe.specs.Pipes.{pushing}
-use Rattle.tko_roster.specs.Rosters.{IsActed, RosterState, session_at}
+use Rattle.tko_roster.specs.Rosters.{AreReady, IsActed, RosterState, session_at}
 use Rattle.tko_roster.proofs.SlotLemmas.{at_index}
 use Rattle.tko_mux.specs.declared.asking.Came.{Came}
 use Rattle.tko_mux.specs.declared.asking.Came.TheVariants.{Unsent}
@@ -21,6 +21,12 @@ use Rattle.tko_mux.specs.Linking.{AreLinked, IsAsker, IsLoose, awaited_at, await
 use Rattle.tko_mux.specs.Muxes.{Calls, HasRequest, IsMade, IsPushedFor, IsSendStopped, MuxState, SendEnds}
 use Rattle.tko_mux.proofs.LinkingLemmas.{asked_linked, last_linked, last_without, loose_awaits, taken_linked}
 use Rattle.tko_mux.proofs.LineLemmas.{others_wait, pushed_waits, set_waits}
+
+-- the sessions can be called as before, where they and their parts stay
+pub ready_as : {S P : Type 0} (is_ready : P → Client S → Type 0) (p old : MuxState S P) → p ≡ old
+    → AreReady is_ready old.roster → AreReady is_ready p.roster
+ready_as {S} {P} is_ready p old same ready =
+    subst (λ (m : MuxState S P). AreReady is_ready m.roster) (sym same) ready
 
 -- a session that is told that memory ran out asks nobody
 pub told : {S P I O : Type 0} (acts : AskingActs S P I O) (awaited : S → List ℕ)

@@ -1,5 +1,5 @@
 -- The sessions of a worker's clients, and the lines to the servers that they wait on.
-use Rattle.std.specs.Prelude.{◌≡◌, ℕ, List, Option, Some, None, IsSome, Result, Ok, Err, slice_get, slice_set, replicate}
+use Rattle.std.specs.Prelude.{◌≡◌, ◌<◌, ℕ, List, [], Option, Some, None, IsSome, Result, Ok, Err, length, slice_get, slice_set, replicate}
 use Rattle.tko_text.specs.declared.request.Request.TheVariants as request
 use Rattle.tko_text.specs.declared.request.Request.{Request}
 use Rattle.tko_text.specs.declared.response.Response.{Response}
@@ -10,7 +10,7 @@ use Rattle.tko_pipe.specs.declared.waiter.Asker.TheVariants as asker
 use Rattle.tko_pipe.specs.declared.waiter.Waiter.{Waiter}
 use Rattle.tko_pipe.specs.Ends.{TakeEnds}
 use Rattle.tko_pipe.specs.Pipes.{pushing}
-use Rattle.tko_roster.specs.Rosters.{IfHas, IsActed, RosterState, nobody, session_at}
+use Rattle.tko_roster.specs.Rosters.{AreReady, IfHas, IsActed, RosterState, nobody, session_at}
 use Rattle.tko_mux.specs.declared.asking.Came.{Came}
 use Rattle.tko_mux.specs.declared.asking.Came.TheVariants as came
 use Rattle.tko_mux.specs.declared.asking.Given.{Given}
@@ -21,12 +21,31 @@ use Rattle.tko_mux.specs.declared.mux.delivery.Delivery.TheVariants.{Probed, Rea
 use Rattle.tko_mux.specs.declared.mux.delivery.Done.{Done}
 use Rattle.tko_mux.specs.Asks.{AskingActs, IsCall}
 use Rattle.tko_mux.specs.Lines.{IsLinePushed, IsOnPipe, LineLeaves, LineState, first_on, idle_line}
+use Rattle.tko_mux.specs.Linking.{AreLinked}
 
 -- the time limit of each connection, the sessions by number, and for each server its line
 pub record MuxState (S P : Type 0) : Type 0 where
   pub limit : ℕ
   pub roster : RosterState (Client S) P
   pub lines : List LineState
+
+-- a multiplexer is in order: each session can be called over the parts, and each client waits for
+-- each server as often as its session awaits it
+pub record IsMuxInOrder {S P : Type 0} (is_ready : P → Client S → Type 0) (awaited : S → List ℕ)
+    (mux : MuxState S P) : Type 0 where
+  pub ready : AreReady is_ready mux.roster
+  pub linked : AreLinked awaited mux.roster.slots mux.lines
+
+-- a session may join: it awaits nobody, and it can be called
+pub record MayJoin {S : Type 0} (awaited : S → List ℕ) (is_ready : S → Type 0) (session : S)
+    : Type 0 where
+  pub idle : awaited session ≡ []
+  pub ready : is_ready session
+
+-- the lines to the servers stay, and how long a response may take on them
+pub record LinesStay {S P : Type 0} (old new : MuxState S P) : Type 0 where
+  pub lines : new.lines ≡ old.lines
+  pub limit : new.limit ≡ old.limit
 
 -- the line to one server before and after; all others stay
 pub record IsOnLine (did : LineState → LineState → Type 0) (old : List LineState) (server : ℕ)
@@ -36,6 +55,14 @@ pub record IsOnLine (did : LineState → LineState → Type 0) (old : List LineS
   pub from : slice_get old server ≡ Some was
   pub ends : did was now
   pub to : new ≡ slice_set old server now
+
+-- the line to one server changes so; the other lines, the sessions, their parts and the time limit
+-- stay
+pub record OneLineChanges {S P : Type 0} (did : LineState → LineState → Type 0)
+    (old : MuxState S P) (server : ℕ) (new : MuxState S P) : Type 0 where
+  pub on : IsOnLine did old.lines server new.lines
+  pub roster : new.roster ≡ old.roster
+  pub limit : new.limit ≡ old.limit
 
 -- the number's session makes this call
 abbrev pub Calls : {S P I O : Type 0} → AskingActs S P I O → (S → List ℕ)
@@ -199,3 +226,9 @@ TellEnds acts awaited asks_for old server due (Some delivery) new =
 abbrev pub HasNoneLeaving : Option LineState → Type 0
 HasNoneLeaving None = Unit {0}
 HasNoneLeaving (Some line) = line.ended ≡ None
+
+-- a connection to this server may be shut: there is such a server, and nobody is left that waited
+-- on one that was shut before
+pub record MayShut {S P : Type 0} (mux : MuxState S P) (server : ℕ) : Type 0 where
+  pub within : server < length mux.lines
+  pub left : HasNoneLeaving (line_at mux server)

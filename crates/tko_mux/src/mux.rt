@@ -5,7 +5,7 @@ ghost use Rattle.tko_pipe.specs.Pipes.{pushing};
 ghost use Rattle.tko_roster.specs.Rosters.{AreReady, IfHas, IsAdmitted, IsReleased, session_at};
 ghost use Rattle.tko_mux.specs.Lines.{IsLinePushed, idle_line};
 ghost use Rattle.tko_mux.specs.Linking.{AreLinked, IsAsker, IsLoose, IsNotForgotten, awaited_at, waiters_at};
-ghost use Rattle.tko_mux.specs.Muxes.{HasRequest, IsMade, IsOnLine, IsPushedFor, IsRequestSent, IsSendStopped, SendEnds, begun_mux};
+ghost use Rattle.tko_mux.specs.Muxes.{HasRequest, IsMade, IsMuxInOrder, IsPushedFor, IsRequestSent, IsSendStopped, LinesStay, MayJoin, OneLineChanges, SendEnds, begun_mux};
 
 mod delivery;
 mod wire;
@@ -43,8 +43,8 @@ impl<P: Drop, S: Asking<P> + Drop> Mux<S, P> {
     pub fn new(alloc: Global, parts: P, servers: usize, limit: u64) -> Result<Mux<S, P>, P>
         ensures state { IfOk result (λ mux. mux ≡ begun_mux limit parts servers) }
         ensures err { IfErr result (λ back. back ≡ parts) }
-        ensures ready { IfOk result (λ mux. AreReady ⟦<Client<S> as Driven<P>>⟧.ready mux.roster) }
-        ensures linked { IfOk result (λ mux. AreLinked S.awaited mux.roster.slots mux.lines) }
+        ensures order { IfOk result (λ mux.
+            IsMuxInOrder ⟦<Client<S> as Driven<P>>⟧.ready S.awaited mux) }
     {
         let Ok(lines) = idle_lines(alloc, servers) else {
             return Err(parts);
@@ -60,17 +60,13 @@ impl<P: Drop, S: Asking<P> + Drop> Mux<S, P> {
 impl<P, S: Asking<P> + Drop> Mux<S, P> {
     /// Gives a session a number that no other has. Without memory for it, the session is dropped.
     pub fn open(&mut self, session: S) -> Result<usize, NoMemory>
-        requires idle { S.awaited session ≡ [] }
-        requires session { S.ready self.old.roster.parts session }
-        requires ready { AreReady ⟦<Client<S> as Driven<P>>⟧.ready self.old.roster }
-        requires linked { AreLinked S.awaited self.old.roster.slots self.old.lines }
+        requires session { MayJoin S.awaited (S.ready self.old.roster.parts) session }
+        requires order { IsMuxInOrder ⟦<Client<S> as Driven<P>>⟧.ready S.awaited self.old }
         ensures ok { IfOk result (λ number.
             IsAdmitted self.old.roster number (record { session = session }) self.new.roster) }
         ensures err { OnErr result (self.new ≡ self.old) }
-        ensures lines { self.new.lines ≡ self.old.lines }
-        ensures limit { self.new.limit ≡ self.old.limit }
-        ensures ready { AreReady ⟦<Client<S> as Driven<P>>⟧.ready self.new.roster }
-        ensures linked { AreLinked S.awaited self.new.roster.slots self.new.lines }
+        ensures lines { LinesStay self.old self.new }
+        ensures order { IsMuxInOrder ⟦<Client<S> as Driven<P>>⟧.ready S.awaited self.new }
     {
         self.roster.admit(Client { session })
     }
@@ -78,16 +74,13 @@ impl<P, S: Asking<P> + Drop> Mux<S, P> {
     /// Frees a number and returns its session, unless a request of it is under way: then the
     /// session keeps the number until it took what comes of that.
     pub fn close(&mut self, number: usize) -> Option<S>
-        requires ready { AreReady ⟦<Client<S> as Driven<P>>⟧.ready self.old.roster }
-        requires linked { AreLinked S.awaited self.old.roster.slots self.old.lines }
+        requires order { IsMuxInOrder ⟦<Client<S> as Driven<P>>⟧.ready S.awaited self.old }
         ensures some { IfSome result (λ session. IsReleased ⟦<Client<S> as Driven<P>>⟧.awaited
             self.old.roster number (record { session = session }) self.new.roster) }
         ensures none { IfNone result ((self.new ≡ self.old)
             × IsNotForgotten S.awaited self.old.roster.slots number) }
-        ensures lines { self.new.lines ≡ self.old.lines }
-        ensures limit { self.new.limit ≡ self.old.limit }
-        ensures ready { AreReady ⟦<Client<S> as Driven<P>>⟧.ready self.new.roster }
-        ensures linked { AreLinked S.awaited self.new.roster.slots self.new.lines }
+        ensures lines { LinesStay self.old self.new }
+        ensures order { IsMuxInOrder ⟦<Client<S> as Driven<P>>⟧.ready S.awaited self.new }
     {
         if !self.is_idle(number) {
             return None;
@@ -150,15 +143,13 @@ impl<P, S: Asking<P> + Drop> Mux<S, P> {
         input: S::Input,
         due: u64,
     ) -> Option<Done<S::Output>>
-        requires ready { AreReady ⟦<Client<S> as Driven<P>>⟧.ready self.old.roster }
-        requires linked { AreLinked S.awaited self.old.roster.slots self.old.lines }
+        requires order { IsMuxInOrder ⟦<Client<S> as Driven<P>>⟧.ready S.awaited self.old }
         requires may { IfHas self.old.roster.slots number (λ client. S.may client.session input) }
         ensures some { IfSome result (λ done. IsMade S.acts S.awaited S.asks_for self.old number
             (Given.Input input) due done self.new) }
         ensures none { IfNone result (session_at self.old.roster.slots number ≡ None) }
         ensures kept { IfNone result (self.new ≡ self.old) }
-        ensures ready { AreReady ⟦<Client<S> as Driven<P>>⟧.ready self.new.roster }
-        ensures linked { AreLinked S.awaited self.new.roster.slots self.new.lines }
+        ensures order { IsMuxInOrder ⟦<Client<S> as Driven<P>>⟧.ready S.awaited self.new }
     {
         let (asked, did) = self.roster.act(number, Given::Input(input))?;
         let stopped = self.send(alloc, number, asked, due);
@@ -182,14 +173,11 @@ impl<P, S: Asking<P> + Drop> Mux<S, P> {
     /// Does something with the parts that all sessions share, which leaves them ready.
     pub fn visit<V: PartsVisit<P>>(&mut self, visit: V) -> V::Output
         requires stays { (old new : P) → V.stays old new → S.stays old new }
-        requires ready { AreReady ⟦<Client<S> as Driven<P>>⟧.ready self.old.roster }
-        requires linked { AreLinked S.awaited self.old.roster.slots self.old.lines }
+        requires order { IsMuxInOrder ⟦<Client<S> as Driven<P>>⟧.ready S.awaited self.old }
         ensures does { V.does visit self.old.roster.parts result self.new.roster.parts }
         ensures slots { self.new.roster.slots ≡ self.old.roster.slots }
-        ensures lines { self.new.lines ≡ self.old.lines }
-        ensures limit { self.new.limit ≡ self.old.limit }
-        ensures ready { AreReady ⟦<Client<S> as Driven<P>>⟧.ready self.new.roster }
-        ensures linked { AreLinked S.awaited self.new.roster.slots self.new.lines }
+        ensures lines { LinesStay self.old self.new }
+        ensures order { IsMuxInOrder ⟦<Client<S> as Driven<P>>⟧.ready S.awaited self.new }
     {
         self.roster.visit(visit)
     }
@@ -198,11 +186,9 @@ impl<P, S: Asking<P> + Drop> Mux<S, P> {
     pub fn probe(&mut self, alloc: Global, duty: Duty, due: u64) -> Result<(), NoMemory>
         requires server { duty < length self.old.lines }
         requires linked { AreLinked S.awaited self.old.roster.slots self.old.lines }
-        ensures ok { OnOk result (IsOnLine (λ was it. IsLinePushed self.old.limit was
-            (pushing Asker.Probe due Request.Version) it) self.old.lines duty self.new.lines) }
+        ensures ok { OnOk result (OneLineChanges (λ was it. IsLinePushed self.old.limit was
+            (pushing Asker.Probe due Request.Version) it) self.old duty self.new) }
         ensures err { OnErr result (self.new ≡ self.old) }
-        ensures limit { self.new.limit ≡ self.old.limit }
-        ensures roster { self.new.roster ≡ self.old.roster }
         ensures linked { AreLinked S.awaited self.new.roster.slots self.new.lines }
     {
         let line = &mut self.lines[duty.server()];

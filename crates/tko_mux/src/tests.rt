@@ -1,7 +1,6 @@
 //! Clients that wait for servers, who gets what comes, and who waits after that.
 ghost use Rattle.std.specs.Prelude.{◌≡◌, None, Some, IfOk};
-ghost use Rattle.tko_roster.specs.Rosters.{AreReady};
-ghost use Rattle.tko_mux.specs.Linking.{AreLinked};
+ghost use Rattle.tko_mux.specs.Muxes.{IsMuxInOrder};
 
 mod several;
 
@@ -101,12 +100,10 @@ fn idle_caller(alloc: Global) -> Result<Caller, Fail>
 
 /// A client comes, and asks server 0. Returns its number.
 fn come(alloc: Global, mux: &mut Mux<Caller, ()>) -> Result<usize, Fail>
-    requires ready { AreReady ⟦<Client<Caller> as Driven<()>>⟧.ready mux.old.roster }
-    requires linked { AreLinked ⟦<Caller as Asking<()>>⟧.awaited mux.old.roster.slots
-        mux.old.lines }
-    ensures ready { AreReady ⟦<Client<Caller> as Driven<()>>⟧.ready mux.new.roster }
-    ensures linked { AreLinked ⟦<Caller as Asking<()>>⟧.awaited mux.new.roster.slots
-        mux.new.lines }
+    requires order { IsMuxInOrder ⟦<Client<Caller> as Driven<()>>⟧.ready
+        ⟦<Caller as Asking<()>>⟧.awaited mux.old }
+    ensures order { IsMuxInOrder ⟦<Client<Caller> as Driven<()>>⟧.ready
+        ⟦<Caller as Asking<()>>⟧.awaited mux.new }
 {
     let number = mux.open(idle_caller(alloc)?)?;
     mux.act(alloc, number, 0, 100);
@@ -115,10 +112,8 @@ fn come(alloc: Global, mux: &mut Mux<Caller, ()>) -> Result<usize, Fail>
 
 /// Two clients that wait for server 0.
 fn two_wait(alloc: Global) -> Result<Mux<Caller, ()>, Fail>
-    ensures ready { IfOk result (λ mux.
-        AreReady ⟦<Client<Caller> as Driven<()>>⟧.ready mux.roster) }
-    ensures linked { IfOk result (λ mux.
-        AreLinked ⟦<Caller as Asking<()>>⟧.awaited mux.roster.slots mux.lines) }
+    ensures { IfOk result (λ mux. IsMuxInOrder ⟦<Client<Caller> as Driven<()>>⟧.ready
+        ⟦<Caller as Asking<()>>⟧.awaited mux) }
 {
     let Ok(mut mux) = Mux::new(alloc, (), 2, 100) else {
         return Err("no memory".into());
@@ -135,12 +130,10 @@ fn first(mux: &Mux<Caller, ()>, server: usize) -> Option<Asker> {
 
 /// Who gets the next that leaves the connection to server 0.
 fn leaves(alloc: Global, mux: &mut Mux<Caller, ()>) -> Option<usize>
-    requires ready { AreReady ⟦<Client<Caller> as Driven<()>>⟧.ready mux.old.roster }
-    requires linked { AreLinked ⟦<Caller as Asking<()>>⟧.awaited mux.old.roster.slots
-        mux.old.lines }
-    ensures ready { AreReady ⟦<Client<Caller> as Driven<()>>⟧.ready mux.new.roster }
-    ensures linked { AreLinked ⟦<Caller as Asking<()>>⟧.awaited mux.new.roster.slots
-        mux.new.lines }
+    requires order { IsMuxInOrder ⟦<Client<Caller> as Driven<()>>⟧.ready
+        ⟦<Caller as Asking<()>>⟧.awaited mux.old }
+    ensures order { IsMuxInOrder ⟦<Client<Caller> as Driven<()>>⟧.ready
+        ⟦<Caller as Asking<()>>⟧.awaited mux.new }
 {
     if mux.servers() == 0 {
         return None;
@@ -153,12 +146,10 @@ fn leaves(alloc: Global, mux: &mut Mux<Caller, ()>) -> Option<usize>
 
 /// Whether a connection to server 0 is being made, which then ends.
 fn is_cut(alloc: Global, mux: &mut Mux<Caller, ()>) -> bool
-    requires ready { AreReady ⟦<Client<Caller> as Driven<()>>⟧.ready mux.old.roster }
-    requires linked { AreLinked ⟦<Caller as Asking<()>>⟧.awaited mux.old.roster.slots
-        mux.old.lines }
-    ensures ready { AreReady ⟦<Client<Caller> as Driven<()>>⟧.ready mux.new.roster }
-    ensures linked { AreLinked ⟦<Caller as Asking<()>>⟧.awaited mux.new.roster.slots
-        mux.new.lines }
+    requires order { IsMuxInOrder ⟦<Client<Caller> as Driven<()>>⟧.ready
+        ⟦<Caller as Asking<()>>⟧.awaited mux.old }
+    ensures order { IsMuxInOrder ⟦<Client<Caller> as Driven<()>>⟧.ready
+        ⟦<Caller as Asking<()>>⟧.awaited mux.new }
 {
     if mux.servers() == 0 || mux.leave(alloc, 0, 100).is_some() {
         return false;

@@ -4,7 +4,7 @@ ghost use Rattle.tko_roster.specs.Rosters.{AreReady};
 ghost use Rattle.tko_mux.specs.Awaits.{times_due};
 ghost use Rattle.tko_mux.specs.Lines.{first_on};
 ghost use Rattle.tko_mux.specs.Linking.{AreLinked, AwaitsFirst, IsFree, IsLoose, awaited_at, waiters_at};
-ghost use Rattle.tko_mux.specs.Muxes.{HasNoneLeaving, IsDelivered, IsMade, IsReadFor, IsResponseRead, ReadsOn, TellEnds, line_at};
+ghost use Rattle.tko_mux.specs.Muxes.{HasNoneLeaving, IsDelivered, IsMade, IsMuxInOrder, IsReadFor, IsResponseRead, MayShut, ReadsOn, TellEnds, line_at};
 
 use crate::{Asking, Came, Client, Given, Line, Mux};
 use std::alloc::Global;
@@ -39,14 +39,11 @@ impl<P, S: Asking<P> + Drop> Mux<S, P> {
         server: usize,
         due: u64,
     ) -> Result<Option<Delivery<S::Output>>, ShutCause>
-        requires server { server < length self.old.lines }
-        requires left { HasNoneLeaving (line_at self.old server) }
-        requires ready { AreReady ⟦<Client<S> as Driven<P>>⟧.ready self.old.roster }
-        requires linked { AreLinked S.awaited self.old.roster.slots self.old.lines }
+        requires may_shut { MayShut self.old server }
+        requires order { IsMuxInOrder ⟦<Client<S> as Driven<P>>⟧.ready S.awaited self.old }
         ensures read { IsResponseRead S.acts S.awaited S.asks_for S.waits_for self.old
             server due result self.new }
-        ensures ready { AreReady ⟦<Client<S> as Driven<P>>⟧.ready self.new.roster }
-        ensures linked { AreLinked S.awaited self.new.roster.slots self.new.lines }
+        ensures order { IsMuxInOrder ⟦<Client<S> as Driven<P>>⟧.ready S.awaited self.new }
     {
         match read_first(&self.roster, &mut self.lines[server], alloc, server) {
             Ok(Some((by, response))) => {
@@ -61,12 +58,10 @@ impl<P, S: Asking<P> + Drop> Mux<S, P> {
     /// became of its request, as long as there is one.
     pub fn leave(&mut self, alloc: Global, server: usize, due: u64) -> Option<Delivery<S::Output>>
         requires server { server < length self.old.lines }
-        requires ready { AreReady ⟦<Client<S> as Driven<P>>⟧.ready self.old.roster }
-        requires linked { AreLinked S.awaited self.old.roster.slots self.old.lines }
+        requires order { IsMuxInOrder ⟦<Client<S> as Driven<P>>⟧.ready S.awaited self.old }
         ensures left { TellEnds S.acts S.awaited S.asks_for self.old server due result self.new }
         ensures none { IfNone result (HasNoneLeaving (line_at self.new server)) }
-        ensures ready { AreReady ⟦<Client<S> as Driven<P>>⟧.ready self.new.roster }
-        ensures linked { AreLinked S.awaited self.new.roster.slots self.new.lines }
+        ensures order { IsMuxInOrder ⟦<Client<S> as Driven<P>>⟧.ready S.awaited self.new }
     {
         match self.lines[server].leave() {
             Some((by, fate)) => Some(self.deliver(alloc, server, by, Came::Fate(fate), due)),

@@ -4,7 +4,7 @@ ghost use Rattle.tko_pipe.specs.Ends.{ExpireEnds, GotEnds};
 ghost use Rattle.tko_pipe.specs.Pipes.{IsCause, IsConnected, IsShut, IsWritten, PipeState, shutting};
 ghost use Rattle.tko_mux.specs.Lines.{IsOnLive, IsOnPipe, link_on, unwritten_on};
 ghost use Rattle.tko_mux.specs.Linking.{AreLinked};
-ghost use Rattle.tko_mux.specs.Muxes.{HasNoneLeaving, IsOnLine, line_at};
+ghost use Rattle.tko_mux.specs.Muxes.{MayShut, OneLineChanges, line_at};
 
 use crate::{Asking, Line, Mux};
 use tko_pipe::{Link, ShutCause};
@@ -30,10 +30,8 @@ impl<P, S: Asking<P> + Drop> Mux<S, P> {
         requires connecting { IfSome (line_at self.old server)
             (λ line. link_on line.pipe ≡ Some Link.Connecting) }
         requires linked { AreLinked S.awaited self.old.roster.slots self.old.lines }
-        ensures connected { IsOnLine (λ was it. IsOnLive IsConnected was it)
-            self.old.lines server self.new.lines }
-        ensures roster { self.new.roster ≡ self.old.roster }
-        ensures limit { self.new.limit ≡ self.old.limit }
+        ensures connected { OneLineChanges (λ was it. IsOnLive IsConnected was it)
+            self.old server self.new }
         ensures linked { AreLinked S.awaited self.new.roster.slots self.new.lines }
     {
         self.lines[server].connected();
@@ -47,11 +45,9 @@ impl<P, S: Asking<P> + Drop> Mux<S, P> {
         requires within { IfSome (line_at self.old server)
             (λ line. count ≤ length (unwritten_on line.pipe)) }
         requires linked { AreLinked S.awaited self.old.roster.slots self.old.lines }
-        ensures wrote { IsOnLine (λ was it. IsOnLive
+        ensures wrote { OneLineChanges (λ was it. IsOnLive
             (λ p q. IsWritten p (take count p.unwritten) q) was it)
-            self.old.lines server self.new.lines }
-        ensures roster { self.new.roster ≡ self.old.roster }
-        ensures limit { self.new.limit ≡ self.old.limit }
+            self.old server self.new }
         ensures linked { AreLinked S.awaited self.new.roster.slots self.new.lines }
     {
         self.lines[server].wrote(count);
@@ -59,16 +55,13 @@ impl<P, S: Asking<P> + Drop> Mux<S, P> {
 
     /// These bytes were read from a server, at this moment.
     pub fn got(&mut self, server: usize, now: u64, bytes: &[u8]) -> Result<(), ShutCause>
-        requires server { server < length self.old.lines }
+        requires may_shut { MayShut self.old server }
         requires connected { IfSome (line_at self.old server)
             (λ line. link_on line.pipe ≡ Some Link.Connected) }
-        requires left { HasNoneLeaving (line_at self.old server) }
         requires some { 0 < length bytes.now }
         requires linked { AreLinked S.awaited self.old.roster.slots self.old.lines }
-        ensures got { IsOnLine (λ was it. IsOnPipe
-            (λ p q. GotEnds p bytes.now now result q) was it) self.old.lines server self.new.lines }
-        ensures roster { self.new.roster ≡ self.old.roster }
-        ensures limit { self.new.limit ≡ self.old.limit }
+        ensures got { OneLineChanges (λ was it. IsOnPipe
+            (λ p q. GotEnds p bytes.now now result q) was it) self.old server self.new }
         ensures linked { AreLinked S.awaited self.new.roster.slots self.new.lines }
     {
         self.lines[server].got(now, bytes)
@@ -76,14 +69,12 @@ impl<P, S: Asking<P> + Drop> Mux<S, P> {
 
     /// Shuts the connection to a server if the first response is late at this moment.
     pub fn expire(&mut self, server: usize, now: u64) -> Option<ShutCause>
-        requires server { server < length self.old.lines }
+        requires may_shut { MayShut self.old server }
         requires pipe { IfSome (line_at self.old server) (λ line. IsSome line.pipe) }
-        requires left { HasNoneLeaving (line_at self.old server) }
         requires linked { AreLinked S.awaited self.old.roster.slots self.old.lines }
-        ensures expired { IsOnLine (λ was it. IsOnPipe (λ p q. ExpireEnds p now result q) was it)
-            self.old.lines server self.new.lines }
-        ensures roster { self.new.roster ≡ self.old.roster }
-        ensures limit { self.new.limit ≡ self.old.limit }
+        ensures expired { OneLineChanges
+            (λ was it. IsOnPipe (λ p q. ExpireEnds p now result q) was it)
+            self.old server self.new }
         ensures linked { AreLinked S.awaited self.new.roster.slots self.new.lines }
     {
         self.lines[server].expire(now)
@@ -91,16 +82,14 @@ impl<P, S: Asking<P> + Drop> Mux<S, P> {
 
     /// Gives up the connection to a server for this cause.
     pub fn shut(&mut self, server: usize, cause: ShutCause)
-        requires server { server < length self.old.lines }
+        requires may_shut { MayShut self.old server }
         requires pipe { IfSome (line_at self.old server) (λ line. IsSome line.pipe) }
-        requires left { HasNoneLeaving (line_at self.old server) }
         requires cause { IfSome (line_at self.old server)
             (λ line. (pipe : PipeState) → line.pipe ≡ Some pipe → IsCause pipe cause) }
         requires linked { AreLinked S.awaited self.old.roster.slots self.old.lines }
-        ensures shut { IsOnLine (λ was it. IsOnPipe (λ p q. IsShut p (shutting p cause) q) was it)
-            self.old.lines server self.new.lines }
-        ensures roster { self.new.roster ≡ self.old.roster }
-        ensures limit { self.new.limit ≡ self.old.limit }
+        ensures shut { OneLineChanges
+            (λ was it. IsOnPipe (λ p q. IsShut p (shutting p cause) q) was it)
+            self.old server self.new }
         ensures linked { AreLinked S.awaited self.new.roster.slots self.new.lines }
     {
         self.lines[server].shut(cause);

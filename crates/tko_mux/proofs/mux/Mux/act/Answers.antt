@@ -9,7 +9,7 @@ send-stopped-requires-clause-asked g c =
     c.args.number c.args.input c.in_ok-asked.asked c.in_ok-asked.did c.act.new.self c.self.view_is
     (called g.S.Asking.acts g.S.Asking.awaited g.S.Asking.asks_for c.self.inside.roster
     c.args.number (Input c.args.input) c.in_ok-asked.asked c.in_ok-asked.did c.act.new.self (search rules))
-    c.requires.linked
+    c.requires.order.linked
 
 pub send-stopped-requires-clause-request : goal.send-stopped-requires-clause-request
 send-stopped-requires-clause-request g c =

@@ -13,7 +13,7 @@ expire-requires-clause-pipe g c =
 pub expire-requires-clause-left : goal.expire-requires-clause-left
 expire-requires-clause-left g c =
     none_leaving _ c.args.self.now c.args.server c.index_mut.result.now c.self.view_is
-    (search rules) c.index_mut.ensures.value c.requires.left
+    (search rules) c.index_mut.ensures.value c.requires.may_shut.left
 
 pub returns-clause-linked : goal.returns-clause-linked
 returns-clause-linked g c =
@@ -21,5 +21,5 @@ returns-clause-linked g c =
     c.expire.new.self c.self.view_is (search rules) c.index_mut.ensures.value c.requires.linked
     (pipe_waits _ c.index_mut.result.now c.expire.new.self
     (none_leaving _ c.args.self.now c.args.server c.index_mut.result.now c.self.view_is
-    (search rules) c.index_mut.ensures.value c.requires.left)
+    (search rules) c.index_mut.ensures.value c.requires.may_shut.left)
     (λ was it ends. expire_waits c.args.now c.expire.result was it ends) c.expire.ensures)

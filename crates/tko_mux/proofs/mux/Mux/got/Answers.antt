@@ -14,7 +14,7 @@ got-requires-clause-connected g c =
 pub got-requires-clause-left : goal.got-requires-clause-left
 got-requires-clause-left g c =
     none_leaving _ c.args.self.now c.args.server c.index_mut.result.now c.self.view_is
-    (search rules) c.index_mut.ensures.value c.requires.left
+    (search rules) c.index_mut.ensures.value c.requires.may_shut.left
 
 pub returns-clause-linked : goal.returns-clause-linked
 returns-clause-linked g c =
@@ -22,5 +22,5 @@ returns-clause-linked g c =
     c.got.new.self c.self.view_is (search rules) c.index_mut.ensures.value c.requires.linked
     (pipe_waits _ c.index_mut.result.now c.got.new.self
     (none_leaving _ c.args.self.now c.args.server c.index_mut.result.now c.self.view_is
-    (search rules) c.index_mut.ensures.value c.requires.left)
+    (search rules) c.index_mut.ensures.value c.requires.may_shut.left)
     (λ was it ends. got_waits c.args.bytes.now c.args.now c.got.result was it ends) c.got.ensures)

@@ -14,7 +14,7 @@ shut-requires-clause-pipe g c =
 pub shut-requires-clause-left : goal.shut-requires-clause-left
 shut-requires-clause-left g c =
     none_leaving _ c.args.self.now c.args.server c.index_mut.result.now c.self.view_is
-    (search rules) c.index_mut.ensures.value c.requires.left
+    (search rules) c.index_mut.ensures.value c.requires.may_shut.left
 
 pub shut-requires-clause-cause : goal.shut-requires-clause-cause
 shut-requires-clause-cause g c =
@@ -28,5 +28,5 @@ returns-clause-linked g c =
     c.shut.new.self c.self.view_is (search rules) c.index_mut.ensures.value c.requires.linked
     (pipe_waits _ c.index_mut.result.now c.shut.new.self
     (none_leaving _ c.args.self.now c.args.server c.index_mut.result.now c.self.view_is
-    (search rules) c.index_mut.ensures.value c.requires.left)
+    (search rules) c.index_mut.ensures.value c.requires.may_shut.left)
     (λ was it is. ap (λ (p : PipeState). p.waiters) is.state) c.shut.ensures)
