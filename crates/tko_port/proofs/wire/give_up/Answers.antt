@@ -13,10 +13,10 @@ shut-requires-clause-cause g c =
 
 pub returns-clause-shut : goal.returns-clause-shut
 returns-clause-shut g c = record {
-  shut = c.shut.ensures.shut;
+  shut = c.shut.ensures.shut.on;
   gone = refl;
   link = shut_link c.args.mux.now.lines c.shut.new.self.lines c.args.server c.args.cause
-      c.shut.ensures.shut;
+      c.shut.ensures.shut.on;
   others = other_lines _ c.args.mux.now.lines c.shut.new.self.lines c.args.server
-      c.shut.ensures.shut;
+      c.shut.ensures.shut.on;
 }

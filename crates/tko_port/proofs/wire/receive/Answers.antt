@@ -6,7 +6,7 @@ use Rattle.tko_port.proofs.wire.receive.Goals as goal
 pub returns-in-Ok-clause-come : goal.returns-in-Ok-clause-come
 returns-in-Ok-clause-come g c = record {
   done = c.got.result;
-  on = c.got.ensures.got;
+  on = c.got.ensures.got.on;
   socket = subst (λ r. IsKeptUnless r (option_map g.L.Port.port c.args.socket.now)
       (option_map g.L.Port.port c.args.socket.now)) (sym c.in-Ok.is) refl;
 }
@@ -14,7 +14,7 @@ returns-in-Ok-clause-come g c = record {
 pub returns-in-Err-clause-come : goal.returns-in-Err-clause-come
 returns-in-Err-clause-come g c = record {
   done = c.got.result;
-  on = c.got.ensures.got;
+  on = c.got.ensures.got.on;
   socket = subst (λ r. IsKeptUnless r (option_map g.L.Port.port c.args.socket.now) None)
       (sym c.in-Err.is) refl;
 }

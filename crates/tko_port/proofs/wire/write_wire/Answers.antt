@@ -10,12 +10,12 @@ returns-in-Some-clause-wrote g c =
     (subst (λ text. WritesPiece (option_map g.L.Port.port c.args.socket.now) text
     (Some c.in-Some.count) (option_map g.L.Port.port c.write_piece.new.socket))
     c.unwritten.ensures c.in-Some.ensures.writes)
-    c.wrote.ensures.wrote
+    c.wrote.ensures.wrote.on
 
 pub returns-in-Some-clause-cannot : goal.returns-in-Some-clause-cannot
 returns-in-Some-clause-cannot g c =
     written_left c.args.mux.now.lines c.wrote.new.self.lines c.args.server c.in-Some.count
-    (option_map g.L.Port.port c.write_piece.new.socket) c.wrote.ensures.wrote
+    (option_map g.L.Port.port c.write_piece.new.socket) c.wrote.ensures.wrote.on
     (subst (λ text. drop c.in-Some.count text ≢ []
     → IsNotWritable (option_map g.L.Port.port c.write_piece.new.socket)) c.unwritten.ensures
     c.in-Some.ensures.cannot)
@@ -23,7 +23,7 @@ returns-in-Some-clause-cannot g c =
 pub returns-in-Some-clause-others : goal.returns-in-Some-clause-others
 returns-in-Some-clause-others g c =
     other_lines _ c.args.mux.now.lines c.wrote.new.self.lines c.args.server
-    c.wrote.ensures.wrote
+    c.wrote.ensures.wrote.on
 
 pub returns-in-None-clause-wrote : goal.returns-in-None-clause-wrote
 returns-in-None-clause-wrote g c =
