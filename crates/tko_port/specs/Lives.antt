@@ -1,6 +1,6 @@
 -- A session and its port: what was read is what the session was fed, and what was written is what
 -- it sent.
-use Rattle.std.specs.Prelude.{◌≡◌, ℕ, List, ◌++◌, Option, IfNone, IfSome}
+use Rattle.std.specs.Prelude.{◌≡◌, ℕ, List, [], ◌++◌, Option, IfNone, IfSome}
 use Rattle.tko_port.specs.declared.guest.Guest.{Guest}
 use Rattle.tko_port.specs.declared.guest.Presence.{Presence}
 use Rattle.tko_port.specs.declared.guest.Presence.TheVariants.{Here, Leaving}
@@ -15,7 +15,13 @@ use Rattle.tko_port.specs.Talks.{Readiness}
 abbrev pub ReadyAt : {P T : Type 0} → Readiness P T → P → PortState → T → Type 0
 ReadyAt ready parts port talk = ready parts port.read port.written talk
 
--- the same, but that what was read last may not have come to it
+-- the same of one that awaits no server: none of its requests is under way
+pub record IsReadyIdle {P T : Type 0} (is_ready : Readiness P T) (parts : P) (port : PortState)
+    (talk : T) (awaited : List ℕ) : Type 0 where
+  pub ready : ReadyAt is_ready parts port talk
+  pub here : awaited ≡ []
+
+-- ready, but that what was read last may not have come to it
 pub record IsReadyBefore {P T : Type 0} (ready : Readiness P T) (parts : P) (port : PortState)
     (talk : T) : Type 0 where
   pub came : List ℕ

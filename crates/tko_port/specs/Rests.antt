@@ -1,6 +1,7 @@
 -- When nothing can be done for a client before its next event, and what was done until then.
 use Rattle.std.specs.Prelude.{◌≡◌, ◌≢◌, ℕ, false, List, [], Option, Some, None, IsSome}
 use Rattle.tko_text.specs.declared.request.Request.{Request}
+use Rattle.tko_mux.specs.Awaits.{IsAsking}
 use Rattle.tko_port.specs.declared.settling.End.TheVariants.{Finished, LineTooLong, Memory, ReadFailed, WriteFailed}
 use Rattle.tko_port.specs.declared.settling.Settled.{Settled}
 use Rattle.tko_port.specs.declared.settling.Settled.TheVariants.{Asks, AsksMore, Ends, Rests, Spent}
@@ -63,6 +64,14 @@ SettledAs (Ends LineTooLong) awaited talk port = (talk.stage ≡ TooLong) × (ta
 SettledAs (Ends Memory) awaited talk port = Unit {0}
 SettledAs (Ends ReadFailed) awaited talk port = Unit {0}
 SettledAs (Ends WriteFailed) awaited talk port = Unit {0}
+
+-- what serving a client came to that awaited these servers before: if it asks one, it awaits that
+-- besides, and has the request that is to be sent
+pub record SettledAsking (settled : Settled) (was awaited : List ℕ) (talk : Talk) (port : PortState)
+    (asks_for : Option Request) : Type 0 where
+  pub ends : SettledAs settled awaited talk port
+  pub asks : IsAsking (asked_as settled) was awaited
+  pub request : HasAsked settled asks_for
 
 -- what serving a client came to that asked no server
 pub record SettledAlone (settled : Settled) (awaited : List ℕ) (talk : Talk) (port : PortState)

@@ -8,7 +8,8 @@ use Rattle.tko_pipe.specs.declared.waiter.Waiter.{Waiter}
 use Rattle.tko_pipe.specs.Ends.{ExpireEnds, GotEnds}
 use Rattle.tko_pipe.specs.Pipes.{IsConnected, IsShut, IsWritten, shutting}
 use Rattle.tko_mux.specs.Lines.{IsOnLive, IsOnPipe, LineState, first_on, link_on, unwritten_on}
-use Rattle.tko_mux.specs.Muxes.{HasNoneLeaving, IsOnLine}
+use Rattle.tko_mux.specs.Linking.{AreLinked}
+use Rattle.tko_mux.specs.Muxes.{HasNoneLeaving, IsOnLine, MuxState, line_at}
 use Rattle.tko_port.specs.declared.port.Read.{Read}
 use Rattle.tko_port.specs.declared.port.Read.TheVariants.{Bytes, Ended, Fault, Nothing}
 use Rattle.tko_port.specs.Ports.{PortState, ReadGives, WriteGives, now_writable}
@@ -33,6 +34,14 @@ pub record IsConnectionMade (server : ℕ) (lines : List LineState) : Type 0 whe
   pub within : server < length lines
   pub link : link_at (slice_get lines server) ≡ Some Connected
   pub left : HasNoneLeaving (slice_get lines server)
+
+-- only the lines to the servers change: the sessions stay, and the time limit of the connections;
+-- and each client waits for each server as often as its session awaits it
+pub record KeepsSessions {S P : Type 0} (awaited : S → List ℕ) (old new : MuxState S P) : Type 0
+  where
+    pub roster : new.roster ≡ old.roster
+    pub limit : new.limit ≡ old.limit
+    pub linked : AreLinked awaited new.roster.slots new.lines
 
 -- a socket is held only once nobody is left of the connection before
 abbrev pub IsHeld : Option PortState → Option LineState → Type 0
@@ -66,6 +75,12 @@ IsNotWritable (Some port) = port.writable ≡ false
 -- nothing can be read from a server: no connection was made, or its port is not readable
 abbrev pub CannotRead : Option LineState → Option PortState → Type 0
 CannotRead line port = link_at line ≡ Some Connected → IsNotReadable port
+
+-- a read found nothing: nothing can be read from a server, and nothing changed
+pub record FindsNothing {S P : Type 0} (old : MuxState S P) (server : ℕ) (port : Option PortState)
+    (new : MuxState S P) : Type 0 where
+  pub kept : new ≡ old
+  pub cannot : CannotRead (line_at new server) port
 
 -- nothing can be written to a server: no connection was made, nothing waits to be written, or its
 -- port is not writable

@@ -1,7 +1,6 @@
 //! A client: its port and its session, as the multiplexer calls them.
-ghost use Rattle.std.specs.Prelude.{◌≡◌, IfSome, IsSome};
-ghost use Rattle.tko_mux.specs.Awaits.{IsAsking};
-ghost use Rattle.tko_port.specs.Guests.{AsksIf, ServedAs, presence_of};
+ghost use Rattle.std.specs.Prelude.{◌≡◌};
+ghost use Rattle.tko_port.specs.Guests.{AsksIf, AsksWithRequest, ServedAs, presence_of};
 ghost use Rattle.tko_port.specs.Lives.{ReadyAt, ReadyBy};
 
 use crate::{End, Port, Settled, Talking, settle};
@@ -158,8 +157,8 @@ fn serve<P, L: Port, T: Talking<P>>(
 ) -> (Option<Clear>, Turned)
     requires ready { ReadyAt T.ready shared.old.parts (L.port port.old) talk.old }
     ensures ends { ServedAs result.1 (T.awaited talk.new) (T.talk talk.new) (L.port port.new) }
-    ensures asks { IsAsking result.0 (T.awaited talk.old) (T.awaited talk.new) }
-    ensures request { IfSome result.0 (λ server. IsSome (T.asks_for talk.new)) }
+    ensures asks { AsksWithRequest result.0 (T.awaited talk.old) (T.awaited talk.new)
+        (T.asks_for talk.new) }
     ensures asked { AsksIf result.1 result.0 }
     ensures ready { ReadyBy T.ready (presence_of result.1) shared.new.parts (L.port port.new)
         talk.new }

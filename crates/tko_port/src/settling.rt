@@ -2,8 +2,8 @@
 ghost use Rattle.std.specs.Prelude.{◌≡◌, ◌<◌, ◌≢◌, [], None, true, IfSome, IfNone, length};
 ghost use Rattle.tko_mux.specs.Awaits.{IsAsking};
 ghost use Rattle.std.specs.Bool.{OnFalse, OnTrue};
-ghost use Rattle.tko_port.specs.Lives.{LeavesReady, ReadyAs, ReadyAt};
-ghost use Rattle.tko_port.specs.Rests.{CannotWrite, HasAsked, IsToRead, SettledAlone, SettledAs, asked_as};
+ghost use Rattle.tko_port.specs.Lives.{IsReadyIdle, LeavesReady, ReadyAs, ReadyAt};
+ghost use Rattle.tko_port.specs.Rests.{CannotWrite, IsToRead, SettledAlone, SettledAsking};
 ghost use Rattle.tko_port.specs.Talks.{IsAtStage};
 
 use crate::{Port, Read, SessionStage, Talking};
@@ -51,9 +51,8 @@ pub fn settle<P, L: Port, T: Talking<P>>(
 ) -> Settled
     requires ready { ReadyAt T.ready parts.old (L.port port.old) talk.old }
     requires room { 0 < length buffer.old }
-    ensures ends { SettledAs result (T.awaited talk.new) (T.talk talk.new) (L.port port.new) }
-    ensures asks { IsAsking (asked_as result) (T.awaited talk.old) (T.awaited talk.new) }
-    ensures request { HasAsked result (T.asks_for talk.new) }
+    ensures ends { SettledAsking result (T.awaited talk.old) (T.awaited talk.new) (T.talk talk.new)
+        (L.port port.new) (T.asks_for talk.new) }
     ensures ready { ReadyAs T.ready result parts.new (L.port port.new) talk.new }
     ensures stays { T.stays parts.old parts.new }
 {
@@ -75,10 +74,8 @@ fn serve<P, L: Port, T: Talking<P>>(
     requires ready { ReadyAt T.ready parts.old (L.port port.old) talk.old }
     requires room { 0 < length buffer.old }
     ensures ends { IfSome result (λ settled.
-        SettledAs settled (T.awaited talk.new) (T.talk talk.new) (L.port port.new)) }
-    ensures asks { IfSome result (λ settled.
-        IsAsking (asked_as settled) (T.awaited talk.old) (T.awaited talk.new)) }
-    ensures request { IfSome result (λ settled. HasAsked settled (T.asks_for talk.new)) }
+        SettledAsking settled (T.awaited talk.old) (T.awaited talk.new) (T.talk talk.new)
+        (L.port port.new) (T.asks_for talk.new)) }
     ensures same { IfNone result (IsAsking None (T.awaited talk.old) (T.awaited talk.new)) }
     ensures ready { LeavesReady T.ready T.stays result parts.old parts.new (L.port port.new)
         talk.new }
@@ -126,8 +123,7 @@ fn serve_idle<P, L: Port, T: Talking<P>>(
     parts: &mut P,
     buffer: &mut [u8],
 ) -> Option<Settled>
-    requires ready { ReadyAt T.ready parts.old (L.port port.old) talk.old }
-    requires here { T.awaited talk.old ≡ [] }
+    requires idle { IsReadyIdle T.ready parts.old (L.port port.old) talk.old (T.awaited talk.old) }
     requires stage { IsAtStage (T.talk talk.old) (T.awaited talk.old) }
     requires room { 0 < length buffer.old }
     ensures ends { IfSome result (λ settled.
@@ -187,8 +183,7 @@ fn write_out<P, L: Port, T: Talking<P>>(
     talk: &mut T,
     parts: &mut P,
 ) -> Option<Settled>
-    requires ready { ReadyAt T.ready parts.old (L.port port.old) talk.old }
-    requires here { T.awaited talk.old ≡ [] }
+    requires idle { IsReadyIdle T.ready parts.old (L.port port.old) talk.old (T.awaited talk.old) }
     requires writable { (L.port port.old).writable ≡ true }
     ensures ends { IfSome result (λ settled. settled ≡ Settled.Ends End.WriteFailed) }
     ensures here { T.awaited talk.new ≡ [] }
@@ -211,8 +206,7 @@ fn read_in<P, L: Port, T: Talking<P>>(
     parts: &mut P,
     buffer: &mut [u8],
 ) -> Option<Settled>
-    requires ready { ReadyAt T.ready parts.old (L.port port.old) talk.old }
-    requires here { T.awaited talk.old ≡ [] }
+    requires idle { IsReadyIdle T.ready parts.old (L.port port.old) talk.old (T.awaited talk.old) }
     requires needs { IsToRead (T.talk talk.old) (L.port port.old) }
     requires room { 0 < length buffer.old }
     ensures ends { IfSome result (λ settled.

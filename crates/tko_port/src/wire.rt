@@ -3,8 +3,8 @@ ghost use Rattle.std.specs.Prelude.{◌≡◌, ◌≢◌, ◌<◌, ◌≤◌, []
 ghost use Rattle.std.specs.Bool.{OnFalse, OnTrue};
 ghost use Rattle.tko_pipe.specs.Pipes.{IsCause, PipeState};
 ghost use Rattle.tko_mux.specs.Linking.{AreLinked};
-ghost use Rattle.tko_mux.specs.Muxes.{HasNoneLeaving, line_at};
-ghost use Rattle.tko_port.specs.Wires.{AreGivenUp, CannotRead, CannotWriteTo, HasCome, HasRead, HasWritten, IsConnectionMade, IsNotWritable, IsOpen, LeavesPort, OtherLines, ReadsFromPort, WritesPiece, due_at, first_at, is_first_late, link_at, unwritten_at};
+ghost use Rattle.tko_mux.specs.Muxes.{line_at};
+ghost use Rattle.tko_port.specs.Wires.{AreGivenUp, CannotWriteTo, FindsNothing, HasCome, HasRead, HasWritten, IsConnectionMade, IsNotWritable, IsOpen, KeepsSessions, LeavesPort, OtherLines, ReadsFromPort, WritesPiece, due_at, first_at, is_first_late, link_at, unwritten_at};
 
 use crate::{Port, Read};
 use tko_mux::{Asking, Mux};
@@ -108,18 +108,14 @@ pub fn read_wire<P, S: Asking<P> + Drop, L: Port + Drop>(
     now: u64,
     buffer: &mut [u8],
 ) -> bool
-    requires server { server < length mux.old.lines }
-    requires left { HasNoneLeaving (line_at mux.old server) }
+    requires open { IsOpen (line_at mux.old server) }
     requires room { 0 < length buffer.old }
     requires linked { AreLinked S.awaited mux.old.roster.slots mux.old.lines }
     ensures read { OnTrue result (HasRead server now mux.old.lines (option_map L.port socket.old)
         mux.new.lines (option_map L.port socket.new)) }
-    ensures kept { OnFalse result (mux.new ≡ mux.old) }
-    ensures cannot { OnFalse result
-        (CannotRead (line_at mux.new server) (option_map L.port socket.new)) }
-    ensures roster { mux.new.roster ≡ mux.old.roster }
-    ensures limit { mux.new.limit ≡ mux.old.limit }
-    ensures linked { AreLinked S.awaited mux.new.roster.slots mux.new.lines }
+    ensures none { OnFalse result
+        (FindsNothing mux.old server (option_map L.port socket.new) mux.new) }
+    ensures sessions { KeepsSessions S.awaited mux.old mux.new }
 {
     if !is_connected(mux, server) {
         return false;
@@ -154,9 +150,7 @@ fn receive<P, S: Asking<P> + Drop, L: Port + Drop>(
     requires linked { AreLinked S.awaited mux.old.roster.slots mux.old.lines }
     ensures come { HasCome server now bytes.now mux.old.lines (option_map L.port socket.old)
         mux.new.lines (option_map L.port socket.new) }
-    ensures roster { mux.new.roster ≡ mux.old.roster }
-    ensures limit { mux.new.limit ≡ mux.old.limit }
-    ensures linked { AreLinked S.awaited mux.new.roster.slots mux.new.lines }
+    ensures sessions { KeepsSessions S.awaited mux.old mux.new }
 {
     match mux.got(server, now, bytes) {
         Ok(()) => {}
@@ -187,16 +181,13 @@ pub fn write_wire<P, S: Asking<P> + Drop, L: Port + Drop>(
     socket: &mut Option<L>,
     server: usize,
 )
-    requires server { server < length mux.old.lines }
-    requires left { HasNoneLeaving (line_at mux.old server) }
+    requires open { IsOpen (line_at mux.old server) }
     requires linked { AreLinked S.awaited mux.old.roster.slots mux.old.lines }
     ensures wrote { HasWritten server mux.old.lines (option_map L.port socket.old) mux.new.lines
         (option_map L.port socket.new) }
     ensures cannot { CannotWriteTo (line_at mux.new server) (option_map L.port socket.new) }
     ensures others { OtherLines server mux.old.lines mux.new.lines }
-    ensures roster { mux.new.roster ≡ mux.old.roster }
-    ensures limit { mux.new.limit ≡ mux.old.limit }
-    ensures linked { AreLinked S.awaited mux.new.roster.slots mux.new.lines }
+    ensures sessions { KeepsSessions S.awaited mux.old mux.new }
 {
     if !is_connected(mux, server) {
         return;
@@ -240,9 +231,7 @@ fn give_up<P, S: Asking<P> + Drop, L: Port + Drop>(
     requires linked { AreLinked S.awaited mux.old.roster.slots mux.old.lines }
     ensures shut { AreGivenUp server cause mux.old.lines mux.new.lines
         (option_map L.port socket.new) }
-    ensures roster { mux.new.roster ≡ mux.old.roster }
-    ensures limit { mux.new.limit ≡ mux.old.limit }
-    ensures linked { AreLinked S.awaited mux.new.roster.slots mux.new.lines }
+    ensures sessions { KeepsSessions S.awaited mux.old mux.new }
 {
     mux.shut(server, cause);
     *socket = None;
