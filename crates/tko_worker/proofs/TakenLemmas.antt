@@ -19,12 +19,12 @@ use Rattle.tko_mux.specs.Muxes.{GoesToClient, IsOnLine, IsResponseRead, MuxState
 use Rattle.tko_port.specs.Peers.{delivery_in}
 use Rattle.tko_port.specs.declared.peer.Peer.{Peer}
 use Rattle.tko_port.specs.Ports.{PortState}
-use Rattle.tko_port.specs.Wires.{IsOpen}
+use Rattle.tko_port.specs.Wires.{IsOpen, first_at, is_first_late}
 use Rattle.tko_port.specs.declared.guest.Guest.{Guest}
 use Rattle.tko_port.specs.declared.guest.SharedParts.{SharedParts}
 use Rattle.tko_port.specs.declared.guest.Turned.{Turned}
 use Rattle.tko_port.specs.Guests.{IsGuestCall}
-use Rattle.tko_worker.specs.Servers.{AwaitsMore, HasLeftNext, HasNoResponse, HasResponseTaken, IsDrained, IsNothingRead, ListsReached, pipe_at}
+use Rattle.tko_worker.specs.Servers.{AwaitsMore, HasLeftNext, HasNoResponse, HasResponseTaken, IsDrained, IsNothingRead, IsServerDone, ListsReached, pipe_at}
 use Rattle.tko_worker.specs.declared.ends.EndCounts.{EndCounts}
 use Rattle.tko_worker.specs.Counts.{MuxAndEnds}
 use Rattle.tko_worker.specs.Workers.{Sight, WorkerState}
@@ -170,14 +170,16 @@ drained_by {L} {T} {P} waits_for old new server port is_open taken nothing = rec
 }
 
 -- and where nothing is late
-pub still_drained : {L T P : Type 0} (port : L → PortState) (waits_for : WaitsFor (Guest L T))
-    (old new : WorkerState L T P) (was now : Peer L) (server : ℕ) (late : Bool)
+pub still_done : {L T P : Type 0} (port : L → PortState) (waits_for : WaitsFor (Guest L T))
+    (moment : ℕ) (old new : WorkerState L T P) (was now : Peer L) (server : ℕ) (late : Bool)
     → OnFalse late ((new ≡ old) × (now ≡ was))
+    → OnFalse late (is_first_late (first_at (line_at old.mux server)) moment ≡ false)
     → IsDrained waits_for old.mux server (option_map port was.socket)
-    → OnTrue (not late) (IsDrained waits_for new.mux server (option_map port now.socket))
-still_drained port waits_for old new was now server true kept drained = tt
-still_drained {L} {T} {P} port waits_for old new was now server false kept drained =
-    subst (λ (w : WorkerState L T P). IsDrained waits_for w.mux server
-    (option_map port now.socket)) (sym kept.0)
-    (subst (λ (p : Peer L). IsDrained waits_for old.mux server (option_map port p.socket))
-    (sym kept.1) drained)
+    → OnTrue (not late)
+    (IsServerDone waits_for new.mux server (option_map port now.socket) moment)
+still_done port waits_for moment old new was now server true kept early drained = tt
+still_done {L} {T} {P} port waits_for moment old new was now server false kept early drained =
+    subst (λ (w : WorkerState L T P). IsServerDone waits_for w.mux server
+    (option_map port now.socket) moment) (sym kept.0)
+    (subst (λ (p : Peer L). IsServerDone waits_for old.mux server (option_map port p.socket) moment)
+    (sym kept.1) (record { drained = drained; time = early }))

@@ -7,7 +7,7 @@ use Rattle.tko_mux.specs.Muxes.{WaitsFor}
 use Rattle.tko_port.specs.declared.guest.Guest.{Guest}
 use Rattle.tko_port.specs.Ports.{PortState}
 use Rattle.tko_worker.specs.Acts.{HasActed}
-use Rattle.tko_worker.specs.Servers.{HasNoResponse, IsDrained}
+use Rattle.tko_worker.specs.Servers.{HasNoResponse, IsServerDone}
 use Rattle.tko_worker.specs.Taking.{AreResponsesTaken, AreTaken, is_flag_set}
 use Rattle.tko_worker.specs.Workers.{Sight, WorkerState}
 use Rattle.tko_worker.proofs.ActedLemmas.{acted_none, worker_acted_on}
@@ -50,18 +50,18 @@ module _ {L T P : Type 0} (sight : Sight L T) (waits_for : WaitsFor (Guest L T))
   ]
 
   -- what came from the next server was taken, or some of it is left
-  pub taken_next : (count : ℕ) (port : Option PortState) (all its both : Bool)
+  pub taken_next : (count moment : ℕ) (port : Option PortState) (all its both : Bool)
       (one two three : WorkerState L T P)
       → both ≡ (all && its) → HasActed sight one two → HasActed sight two three
       → OnTrue all (AreTaken sight waits_for flags count one two)
-      → OnTrue its (IsDrained waits_for three.mux count port)
+      → OnTrue its (IsServerDone waits_for three.mux count port moment)
       → OnTrue both (AreTaken sight waits_for flags (count + 1) one three)
-  taken_next count port all its both one two three is done more before drained =
+  taken_next count moment port all its both one two three is done more before its_done =
       OnTrue_from both (AreTaken sight waits_for flags (count + 1) one three) (λ yes.
       (let parts = and_parts all its (sym is ∙ yes) in
       one_more count one three (taken_on count one two three (OnTrue_at parts.0 before) more)
       (λ _. none_left count one three (worker_acted_on sight one two three done more)
-      (OnTrue_at parts.1 drained).taken)))
+      (OnTrue_at parts.1 its_done).drained.taken)))
 
   -- all was taken, or some of it is left, whatever is done next
   pub all_taken : (now : List Bool) (count : ℕ) (all : Bool) (one two three : WorkerState L T P)

@@ -13,7 +13,8 @@ use Rattle.tko_port.specs.declared.settling.End.{End}
 use Rattle.tko_port.specs.Guests.{IsGuestCall}
 use Rattle.tko_worker.specs.declared.ends.EndCounts.{EndCounts}
 use Rattle.tko_worker.specs.Counts.{counted_end}
-use Rattle.tko_worker.specs.Workers.{Sight, WorkerState}
+use Rattle.tko_port.specs.Talks.{Readiness}
+use Rattle.tko_worker.specs.Workers.{IsInOrder, Sight, WorkerState}
 
 -- what a client does: it comes, is called, or leaves
 abbrev pub ClientAct : Type 0 → Type 0 → Type 0
@@ -46,6 +47,12 @@ pub record HaveActed {L T P : Type 0} (sight : Sight L T) (old new : RosterAndEn
 -- the same of a worker's
 abbrev pub HasActed : {L T P : Type 0} → Sight L T → WorkerState L T P → WorkerState L T P → Type 0
 HasActed sight old new = HaveActed sight (old.mux.roster, old.ends) (new.mux.roster, new.ends)
+
+-- clients of a worker acted, and it is in order after that
+pub record ActsInOrder {L T P : Type 0} (sight : Sight L T) (is_ready : Readiness P T)
+    (old new : WorkerState L T P) : Type 0 where
+  pub acted : HasActed sight old new
+  pub order : IsInOrder sight is_ready new
 
 -- how many of these acts are of clients that left
 abbrev pub one_left : {L T : Type 0} → ClientAct L T → ℕ

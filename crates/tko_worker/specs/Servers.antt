@@ -1,5 +1,6 @@
 -- The servers of a worker: what came from them, and when nothing can be done for them.
-use Rattle.std.specs.Prelude.{◌≡◌, ◌⊎◌, ℕ, List, [], Option, Some, None, Result, Err, slice_get}
+use Rattle.std.specs.Prelude.{◌≡◌, ◌⊎◌, ℕ, Bool, false, List, [], Option, Some, None, Result, Err, slice_get}
+use Rattle.std.specs.Bool.{OnFalse, OnTrue}
 use Rattle.std.specs.Option.{option_and_then}
 use Rattle.tko_text.specs.declared.request.Request.{Request}
 use Rattle.tko_text.specs.declared.response.fault.ReadFault.TheVariants as fault
@@ -20,7 +21,9 @@ use Rattle.tko_port.specs.declared.guest.SharedParts.{SharedParts}
 use Rattle.tko_port.specs.declared.guest.Turned.{Turned}
 use Rattle.tko_port.specs.Guests.{IsGuestCall}
 use Rattle.tko_port.specs.Ports.{PortState}
-use Rattle.tko_port.specs.Wires.{CannotRead, IsOpen}
+use Rattle.tko_port.specs.declared.peer.Peer.{Peer}
+use Rattle.tko_port.specs.Wires.{CannotRead, HasExpired, HasReadOn, IsOpen, first_at, is_first_late}
+use Rattle.tko_worker.specs.Changes.{OnlyLinesChange}
 use Rattle.tko_worker.specs.Counts.{MuxAndEnds}
 use Rattle.tko_worker.specs.Workers.{ListEnds, Sight, WorkerState}
 
@@ -61,6 +64,30 @@ pub record IsNothingRead {L T P : Type 0} (old : WorkerState L T P) (server : �
     (port : Option PortState) (new : WorkerState L T P) : Type 0 where
   pub kept : new ≡ old
   pub cannot : CannotRead (line_at new.mux server) port
+
+-- nothing can be done for a server before its next event: all that came from it was read and taken,
+-- and its first response is not late at this moment
+pub record IsServerDone {S P : Type 0} (waits_for : WaitsFor S) (mux : MuxState S P) (server : ℕ)
+    (port : Option PortState) (now : ℕ) : Type 0 where
+  pub drained : IsDrained waits_for mux server port
+  pub time : is_first_late (first_at (line_at mux server)) now ≡ false
+
+-- what reading once from a server came to: bytes came, or its connection was shut; or nothing can be
+-- read, and nothing changed. No client changes by it
+pub record IsReadOnce {L T P : Type 0} (server now : ℕ) (old : WorkerState L T P)
+    (was is : Option PortState) (came : Bool) (new : WorkerState L T P) : Type 0 where
+  pub read : OnTrue came (HasReadOn server now old.mux.lines was new.mux.lines)
+  pub none : OnFalse came (IsNothingRead old server is new)
+  pub clients : OnlyLinesChange old new
+
+-- the connection to a server was shut if its first response was late; else nothing changed. No client
+-- changes by it
+pub record IsShutIfLate {L T P : Type 0} (server now : ℕ) (old : WorkerState L T P) (was is : Peer L)
+    (late : Bool) (new : WorkerState L T P) : Type 0 where
+  pub shut : OnTrue late (HasExpired server now old.mux.lines new.mux.lines)
+  pub time : OnFalse late (is_first_late (first_at (line_at old.mux server)) now ≡ false)
+  pub kept : OnFalse late ((new ≡ old) × (is ≡ was))
+  pub clients : OnlyLinesChange old new
 
 -- the client that something reached, if it reached one, is to be served in this turn
 abbrev pub ListsReached : {L T P : Type 0} → Sight L T → MuxAndEnds L T P

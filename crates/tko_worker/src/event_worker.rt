@@ -307,7 +307,6 @@ fn serve_all<P, L: Port + Drop, T: Talking<P> + Drop>(
         ⟦<Guest<L, T> as Asking<SharedParts<P>>>⟧.waits_for awake.now (length peers.old.items)
         clients.old clients.new) }
     ensures count { length peers.new.items ≡ length peers.old.items }
-    ensures room { length buffer.new ≡ length buffer.old }
     ensures acted { HasActed (T.awaited, T.talk, L.port) clients.old clients.new }
     ensures order { IsInOrder (T.awaited, T.talk, L.port) T.ready clients.new }
 {

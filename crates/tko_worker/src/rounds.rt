@@ -2,7 +2,7 @@
 ghost use Rattle.std.specs.Prelude.{◌≡◌, ◌<◌, OnErr, OnOk, length};
 ghost use Rattle.tko_pipe.specs.Pipes.{pushing};
 ghost use Rattle.tko_mux.specs.Lines.{IsLinePushed};
-ghost use Rattle.tko_mux.specs.Muxes.{IsOnLine};
+ghost use Rattle.tko_mux.specs.Muxes.{IsOnLine, LinesStay};
 ghost use Rattle.tko_worker.specs.Changes.{KeepsClients, OnlyLinesChange};
 ghost use Rattle.tko_worker.specs.Workers.{IsInOrder};
 
@@ -44,8 +44,7 @@ impl<P, L: Port + Drop, T: Talking<P> + Drop> Worker<L, T, P> {
         ensures does { V.does visit self.old.mux.roster.parts.parts result
             self.new.mux.roster.parts.parts }
         ensures clients { KeepsClients self.old self.new }
-        ensures lines { self.new.mux.lines ≡ self.old.mux.lines }
-        ensures limit { self.new.mux.limit ≡ self.old.mux.limit }
+        ensures lines { LinesStay self.old.mux self.new.mux }
         ensures order { IsInOrder (T.awaited, T.talk, L.port) T.ready self.new }
     {
         self.mux.visit(OnShared { visit })

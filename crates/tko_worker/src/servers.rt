@@ -1,11 +1,11 @@
 //! The servers of a worker, from one event to the next.
-ghost use Rattle.std.specs.Prelude.{◌≡◌, ◌<◌, None, false, length, option_map};
+ghost use Rattle.std.specs.Prelude.{◌≡◌, ◌<◌, None, length, option_map};
 ghost use Rattle.std.specs.Bool.{OnFalse, OnTrue};
-ghost use Rattle.tko_mux.specs.Muxes.{HasNoneLeaving, line_at};
-ghost use Rattle.tko_worker.specs.Acts.{HasActed};
+ghost use Rattle.tko_mux.specs.Muxes.{MayShut, line_at};
+ghost use Rattle.tko_worker.specs.Acts.{ActsInOrder, HasActed};
 ghost use Rattle.tko_worker.specs.Changes.{OnlyLinesChange};
-ghost use Rattle.tko_worker.specs.Servers.{HasNoResponse, IsDrained, IsNothingRead};
-ghost use Rattle.tko_port.specs.Wires.{CannotWriteTo, HasConnected, HasExpired, HasFailed, HasReadOn, IsHeld, IsOpen, OtherLines, first_at, is_first_late};
+ghost use Rattle.tko_worker.specs.Servers.{HasNoResponse, IsDrained, IsReadOnce, IsServerDone, IsShutIfLate};
+ghost use Rattle.tko_port.specs.Wires.{CannotWriteTo, HasConnected, HasFailed, IsHeld, IsOpen, OtherLines};
 ghost use Rattle.tko_worker.specs.Workers.{IsInOrder};
 
 use crate::Worker;
@@ -80,15 +80,11 @@ impl<P, L: Port + Drop, T: Talking<P> + Drop> Worker<L, T, P> {
     ) -> bool
         requires room { 0 < length buffer.old }
         requires order { IsInOrder (T.awaited, T.talk, L.port) T.ready self.old }
-        ensures drained { OnTrue result
-            (IsDrained ⟦<Guest<L, T> as Asking<SharedParts<P>>>⟧.waits_for self.new.mux server
-            (option_map L.port peer.new.socket)) }
-        ensures time { OnTrue result
-            (is_first_late (first_at (line_at self.new.mux server)) now ≡ false) }
+        ensures done { OnTrue result
+            (IsServerDone ⟦<Guest<L, T> as Asking<SharedParts<P>>>⟧.waits_for self.new.mux server
+            (option_map L.port peer.new.socket) now) }
         ensures held { IsHeld (option_map L.port peer.new.socket) (line_at self.new.mux server) }
-        ensures room { length buffer.new ≡ length buffer.old }
-        ensures acted { HasActed (T.awaited, T.talk, L.port) self.old self.new }
-        ensures order { IsInOrder (T.awaited, T.talk, L.port) T.ready self.new }
+        ensures acts { ActsInOrder (T.awaited, T.talk, L.port) T.ready self.old self.new }
     {
         if !self.leave_all(alloc, peer, server, due) {
             return false;
@@ -156,9 +152,7 @@ impl<P, L: Port + Drop, T: Talking<P> + Drop> Worker<L, T, P> {
             (IsDrained ⟦<Guest<L, T> as Asking<SharedParts<P>>>⟧.waits_for self.new.mux server
             (option_map L.port peer.new.socket)) }
         ensures held { IsHeld (option_map L.port peer.new.socket) (line_at self.new.mux server) }
-        ensures room { length buffer.new ≡ length buffer.old }
-        ensures acted { HasActed (T.awaited, T.talk, L.port) self.old self.new }
-        ensures order { IsInOrder (T.awaited, T.talk, L.port) T.ready self.new }
+        ensures acts { ActsInOrder (T.awaited, T.talk, L.port) T.ready self.old self.new }
     {
         for _ in 0..READS {
             if !self.take_all(alloc, peer, server, due) {
@@ -180,8 +174,7 @@ impl<P, L: Port + Drop, T: Talking<P> + Drop> Worker<L, T, P> {
             self.new.mux server) }
         ensures open { OnTrue result (IsOpen (line_at self.new.mux server)) }
         ensures held { IsHeld (option_map L.port peer.new.socket) (line_at self.new.mux server) }
-        ensures acted { HasActed (T.awaited, T.talk, L.port) self.old self.new }
-        ensures order { IsInOrder (T.awaited, T.talk, L.port) T.ready self.new }
+        ensures acts { ActsInOrder (T.awaited, T.talk, L.port) T.ready self.old self.new }
     {
         for _ in 0..RESPONSES {
             if !is_open(&self.mux, server) {
@@ -196,8 +189,7 @@ impl<P, L: Port + Drop, T: Talking<P> + Drop> Worker<L, T, P> {
 
     /// Takes the next response of a server. Returns whether one came, or the connection was shut.
     fn take_one(&mut self, alloc: Global, peer: &mut Peer<L>, server: usize, due: u64) -> bool
-        requires server { server < length self.old.mux.lines }
-        requires left { HasNoneLeaving (line_at self.old.mux server) }
+        requires may_shut { MayShut self.old.mux server }
         requires order { IsInOrder (T.awaited, T.talk, L.port) T.ready self.old }
         ensures taken { OnFalse result
             (HasNoResponse ⟦<Guest<L, T> as Asking<SharedParts<P>>>⟧.waits_for
@@ -215,15 +207,10 @@ impl<P, L: Port + Drop, T: Talking<P> + Drop> Worker<L, T, P> {
     fn read(&mut self, peer: &mut Peer<L>, server: usize, now: u64, buffer: &mut [u8]) -> bool
         requires open { IsOpen (line_at self.old.mux server) }
         requires room { 0 < length buffer.old }
-        requires held { IsHeld (option_map L.port peer.old.socket) (line_at self.old.mux server) }
         requires order { IsInOrder (T.awaited, T.talk, L.port) T.ready self.old }
-        ensures read { OnTrue result (HasReadOn server now self.old.mux.lines
-            (option_map L.port peer.old.socket) self.new.mux.lines) }
-        ensures none { OnFalse result (IsNothingRead self.old server
-            (option_map L.port peer.new.socket) self.new) }
+        ensures read { IsReadOnce server now self.old (option_map L.port peer.old.socket)
+            (option_map L.port peer.new.socket) result self.new }
         ensures held { IsHeld (option_map L.port peer.new.socket) (line_at self.new.mux server) }
-        ensures room { length buffer.new ≡ length buffer.old }
-        ensures clients { OnlyLinesChange self.old self.new }
         ensures order { IsInOrder (T.awaited, T.talk, L.port) T.ready self.new }
     {
         if !read_wire(&mut self.mux, &mut peer.socket, server, now, buffer) {
@@ -237,15 +224,9 @@ impl<P, L: Port + Drop, T: Talking<P> + Drop> Worker<L, T, P> {
     /// whether it is.
     fn expire(&mut self, peer: &mut Peer<L>, server: usize, now: u64) -> bool
         requires open { IsOpen (line_at self.old.mux server) }
-        requires held { IsHeld (option_map L.port peer.old.socket) (line_at self.old.mux server) }
         requires order { IsInOrder (T.awaited, T.talk, L.port) T.ready self.old }
-        ensures kept { OnFalse result ((self.new ≡ self.old) × (peer.new ≡ peer.old)) }
-        ensures time { OnFalse result
-            (is_first_late (first_at (line_at self.old.mux server)) now ≡ false) }
-        ensures late { OnTrue result
-            (HasExpired server now self.old.mux.lines self.new.mux.lines) }
+        ensures late { IsShutIfLate server now self.old peer.old peer.new result self.new }
         ensures held { IsHeld (option_map L.port peer.new.socket) (line_at self.new.mux server) }
-        ensures clients { OnlyLinesChange self.old self.new }
         ensures order { IsInOrder (T.awaited, T.talk, L.port) T.ready self.new }
     {
         if !is_late(&self.mux, server, now) {

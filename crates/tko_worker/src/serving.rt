@@ -1,8 +1,8 @@
 //! One client is served, or noted as one that is to be served; where it ends, that is counted.
 ghost use Rattle.std.specs.Prelude.{◌≡◌, Some};
 ghost use Rattle.std.specs.Bool.{OnFalse, OnTrue};
-ghost use Rattle.tko_roster.specs.Rosters.{AreReady};
-ghost use Rattle.tko_mux.specs.Linking.{AreLinked, IsNotForgotten};
+ghost use Rattle.tko_mux.specs.Linking.{IsNotForgotten};
+ghost use Rattle.tko_mux.specs.Muxes.{IsMuxInOrder};
 ghost use Rattle.tko_worker.specs.Acts.{HaveActed};
 ghost use Rattle.tko_worker.specs.Servers.{ListsReached};
 ghost use Rattle.tko_worker.specs.Serving.{OnceEnds, ServeCounts, SpentEnds};
@@ -39,10 +39,8 @@ pub(crate) fn serve<P, L: Port + Drop, T: Talking<P> + Drop>(
     number: usize,
     due: u64,
 )
-    requires ready { AreReady ⟦<Client<Guest<L, T>> as Driven<SharedParts<P>>>⟧.ready
-        mux.old.roster }
-    requires linked { AreLinked ⟦<Guest<L, T> as Asking<SharedParts<P>>>⟧.awaited
-        mux.old.roster.slots mux.old.lines }
+    requires order { IsMuxInOrder ⟦<Client<Guest<L, T>> as Driven<SharedParts<P>>>⟧.ready
+        ⟦<Guest<L, T> as Asking<SharedParts<P>>>⟧.awaited mux.old }
     ensures served { IsNumberServed (T.awaited, T.talk, L.port)
         ⟦<Guest<L, T> as Asking<SharedParts<P>>>⟧.asks_for mux.old number due mux.new
         spent.old.items spent.new.items }
@@ -52,10 +50,8 @@ pub(crate) fn serve<P, L: Port + Drop, T: Talking<P> + Drop>(
     ensures others { OthersStay number mux.old.roster.slots mux.new.roster.slots }
     ensures acted { HaveActed (T.awaited, T.talk, L.port) (mux.old.roster, ends.old)
         (mux.new.roster, ends.new) }
-    ensures ready { AreReady ⟦<Client<Guest<L, T>> as Driven<SharedParts<P>>>⟧.ready
-        mux.new.roster }
-    ensures linked { AreLinked ⟦<Guest<L, T> as Asking<SharedParts<P>>>⟧.awaited
-        mux.new.roster.slots mux.new.lines }
+    ensures order { IsMuxInOrder ⟦<Client<Guest<L, T>> as Driven<SharedParts<P>>>⟧.ready
+        ⟦<Guest<L, T> as Asking<SharedParts<P>>>⟧.awaited mux.new }
 {
     if is_spent(mux, ends, alloc, number, due) {
         list(mux, spent, ends, alloc, number);
@@ -70,20 +66,16 @@ pub(crate) fn list_reached<P, L: Port + Drop, T: Talking<P> + Drop>(
     alloc: Global,
     delivery: &Delivery<Turned>,
 )
-    requires ready { AreReady ⟦<Client<Guest<L, T>> as Driven<SharedParts<P>>>⟧.ready
-        mux.old.roster }
-    requires linked { AreLinked ⟦<Guest<L, T> as Asking<SharedParts<P>>>⟧.awaited
-        mux.old.roster.slots mux.old.lines }
+    requires order { IsMuxInOrder ⟦<Client<Guest<L, T>> as Driven<SharedParts<P>>>⟧.ready
+        ⟦<Guest<L, T> as Asking<SharedParts<P>>>⟧.awaited mux.old }
     ensures ends { ListsReached (T.awaited, T.talk, L.port) (mux.old, ends.old)
         (Some delivery.now) numbers.old.items (mux.new, ends.new) numbers.new.items }
     ensures listed { IsListedFor (T.awaited, T.talk, L.port) mux.new.roster.slots delivery.now
         numbers.old.items numbers.new.items }
     ensures others { OthersStayFor delivery.now mux.old.roster.slots mux.new.roster.slots }
     ensures lines { mux.new.lines ≡ mux.old.lines }
-    ensures ready { AreReady ⟦<Client<Guest<L, T>> as Driven<SharedParts<P>>>⟧.ready
-        mux.new.roster }
-    ensures linked { AreLinked ⟦<Guest<L, T> as Asking<SharedParts<P>>>⟧.awaited
-        mux.new.roster.slots mux.new.lines }
+    ensures order { IsMuxInOrder ⟦<Client<Guest<L, T>> as Driven<SharedParts<P>>>⟧.ready
+        ⟦<Guest<L, T> as Asking<SharedParts<P>>>⟧.awaited mux.new }
 {
     match delivery {
         Delivery::Reached(number, _) => list(mux, numbers, ends, alloc, *number),
@@ -101,20 +93,16 @@ pub(crate) fn list<P, L: Port + Drop, T: Talking<P> + Drop>(
     alloc: Global,
     number: usize,
 )
-    requires ready { AreReady ⟦<Client<Guest<L, T>> as Driven<SharedParts<P>>>⟧.ready
-        mux.old.roster }
-    requires linked { AreLinked ⟦<Guest<L, T> as Asking<SharedParts<P>>>⟧.awaited
-        mux.old.roster.slots mux.old.lines }
+    requires order { IsMuxInOrder ⟦<Client<Guest<L, T>> as Driven<SharedParts<P>>>⟧.ready
+        ⟦<Guest<L, T> as Asking<SharedParts<P>>>⟧.awaited mux.old }
     ensures ends { ListEnds (T.awaited, T.talk, L.port) (mux.old, ends.old) number
         numbers.old.items (mux.new, ends.new) numbers.new.items }
     ensures listed { IsNotedToServe (T.awaited, T.talk, L.port) mux.new.roster.slots number
         numbers.old.items numbers.new.items }
     ensures lines { mux.new.lines ≡ mux.old.lines }
     ensures others { OthersStay number mux.old.roster.slots mux.new.roster.slots }
-    ensures ready { AreReady ⟦<Client<Guest<L, T>> as Driven<SharedParts<P>>>⟧.ready
-        mux.new.roster }
-    ensures linked { AreLinked ⟦<Guest<L, T> as Asking<SharedParts<P>>>⟧.awaited
-        mux.new.roster.slots mux.new.lines }
+    ensures order { IsMuxInOrder ⟦<Client<Guest<L, T>> as Driven<SharedParts<P>>>⟧.ready
+        ⟦<Guest<L, T> as Asking<SharedParts<P>>>⟧.awaited mux.new }
 {
     if numbers.push(number).is_err() {
         drop_client(mux, ends, alloc, number, End::Memory);
@@ -130,19 +118,15 @@ fn drop_client<P, L: Port + Drop, T: Talking<P> + Drop>(
     number: usize,
     why: End,
 )
-    requires ready { AreReady ⟦<Client<Guest<L, T>> as Driven<SharedParts<P>>>⟧.ready
-        mux.old.roster }
-    requires linked { AreLinked ⟦<Guest<L, T> as Asking<SharedParts<P>>>⟧.awaited
-        mux.old.roster.slots mux.old.lines }
+    requires order { IsMuxInOrder ⟦<Client<Guest<L, T>> as Driven<SharedParts<P>>>⟧.ready
+        ⟦<Guest<L, T> as Asking<SharedParts<P>>>⟧.awaited mux.old }
     ensures ends { DropEnds (T.awaited, T.talk, L.port) why (mux.old, ends.old) number
         (mux.new, ends.new) }
     ensures rests { RestAt (T.awaited, T.talk, L.port) mux.new.roster.slots number }
     ensures lines { mux.new.lines ≡ mux.old.lines }
     ensures others { OthersStay number mux.old.roster.slots mux.new.roster.slots }
-    ensures ready { AreReady ⟦<Client<Guest<L, T>> as Driven<SharedParts<P>>>⟧.ready
-        mux.new.roster }
-    ensures linked { AreLinked ⟦<Guest<L, T> as Asking<SharedParts<P>>>⟧.awaited
-        mux.new.roster.slots mux.new.lines }
+    ensures order { IsMuxInOrder ⟦<Client<Guest<L, T>> as Driven<SharedParts<P>>>⟧.ready
+        ⟦<Guest<L, T> as Asking<SharedParts<P>>>⟧.awaited mux.new }
 {
     let Some(guest) = mux.close(number) else {
         if !is_resting(mux, number) {
@@ -191,10 +175,8 @@ fn is_spent<P, L: Port + Drop, T: Talking<P> + Drop>(
     number: usize,
     due: u64,
 ) -> bool
-    requires ready { AreReady ⟦<Client<Guest<L, T>> as Driven<SharedParts<P>>>⟧.ready
-        mux.old.roster }
-    requires linked { AreLinked ⟦<Guest<L, T> as Asking<SharedParts<P>>>⟧.awaited
-        mux.old.roster.slots mux.old.lines }
+    requires order { IsMuxInOrder ⟦<Client<Guest<L, T>> as Driven<SharedParts<P>>>⟧.ready
+        ⟦<Guest<L, T> as Asking<SharedParts<P>>>⟧.awaited mux.old }
     ensures ends { SpentEnds (T.awaited, T.talk, L.port)
         ⟦<Guest<L, T> as Asking<SharedParts<P>>>⟧.asks_for (mux.old, ends.old) number due result
         (mux.new, ends.new) }
@@ -204,10 +186,8 @@ fn is_spent<P, L: Port + Drop, T: Talking<P> + Drop>(
     ensures others { OthersStay number mux.old.roster.slots mux.new.roster.slots }
     ensures acted { HaveActed (T.awaited, T.talk, L.port) (mux.old.roster, ends.old)
         (mux.new.roster, ends.new) }
-    ensures ready { AreReady ⟦<Client<Guest<L, T>> as Driven<SharedParts<P>>>⟧.ready
-        mux.new.roster }
-    ensures linked { AreLinked ⟦<Guest<L, T> as Asking<SharedParts<P>>>⟧.awaited
-        mux.new.roster.slots mux.new.lines }
+    ensures order { IsMuxInOrder ⟦<Client<Guest<L, T>> as Driven<SharedParts<P>>>⟧.ready
+        ⟦<Guest<L, T> as Asking<SharedParts<P>>>⟧.awaited mux.new }
 {
     for _ in 1..ASKS {
         match serve_once(mux, ends, alloc, number, due) {
@@ -231,20 +211,16 @@ fn serve_once<P, L: Port + Drop, T: Talking<P> + Drop>(
     number: usize,
     due: u64,
 ) -> AfterServing
-    requires ready { AreReady ⟦<Client<Guest<L, T>> as Driven<SharedParts<P>>>⟧.ready
-        mux.old.roster }
-    requires linked { AreLinked ⟦<Guest<L, T> as Asking<SharedParts<P>>>⟧.awaited
-        mux.old.roster.slots mux.old.lines }
+    requires order { IsMuxInOrder ⟦<Client<Guest<L, T>> as Driven<SharedParts<P>>>⟧.ready
+        ⟦<Guest<L, T> as Asking<SharedParts<P>>>⟧.awaited mux.old }
     ensures ends { OnceEnds (T.awaited, T.talk, L.port)
         ⟦<Guest<L, T> as Asking<SharedParts<P>>>⟧.asks_for (mux.old, ends.old) number due result
         (mux.new, ends.new) }
     ensures others { OthersStay number mux.old.roster.slots mux.new.roster.slots }
     ensures acted { HaveActed (T.awaited, T.talk, L.port) (mux.old.roster, ends.old)
         (mux.new.roster, ends.new) }
-    ensures ready { AreReady ⟦<Client<Guest<L, T>> as Driven<SharedParts<P>>>⟧.ready
-        mux.new.roster }
-    ensures linked { AreLinked ⟦<Guest<L, T> as Asking<SharedParts<P>>>⟧.awaited
-        mux.new.roster.slots mux.new.lines }
+    ensures order { IsMuxInOrder ⟦<Client<Guest<L, T>> as Driven<SharedParts<P>>>⟧.ready
+        ⟦<Guest<L, T> as Asking<SharedParts<P>>>⟧.awaited mux.new }
 {
     let Some(done) = mux.act(alloc, number, ClientEvent::Serve, due) else {
         return AfterServing::Rests;

@@ -1,6 +1,6 @@
 //! A turn of events of a worker's clients: what came is noted, and those that are to be served are.
 ghost use Rattle.std.specs.Prelude.{◌≡◌, ◌<◌, [], IfNone, length};
-ghost use Rattle.tko_mux.specs.Muxes.{HasNoneLeaving, line_at};
+ghost use Rattle.tko_mux.specs.Muxes.{HasNoneLeaving, MayShut, line_at};
 ghost use Rattle.tko_port.specs.Guests.{IsNotice};
 ghost use Rattle.tko_worker.specs.Acts.{HasActed};
 ghost use Rattle.tko_worker.specs.Servers.{HasLeftNext, HasResponseTaken};
@@ -88,8 +88,7 @@ impl<P, L: Port + Drop, T: Talking<P> + Drop> Worker<L, T, P> {
         server: usize,
         due: u64,
     ) -> Result<Option<Delivery<Turned>>, ShutCause>
-        requires server { server < length self.old.mux.lines }
-        requires left { HasNoneLeaving (line_at self.old.mux server) }
+        requires may_shut { MayShut self.old.mux server }
         requires order { IsInOrder (T.awaited, T.talk, L.port) T.ready self.old }
         ensures taken { HasResponseTaken (T.awaited, T.talk, L.port)
             ⟦<Guest<L, T> as Asking<SharedParts<P>>>⟧.asks_for

@@ -3,6 +3,7 @@ ghost use Rattle.std.specs.Prelude.{◌≡◌, ◌<◌, ℕ, [], None, IfErr, If
 ghost use Rattle.std.specs.Bool.{OnFalse, OnTrue};
 ghost use Rattle.tko_roster.specs.Rosters.{session_at};
 ghost use Rattle.tko_mux.specs.Linking.{IsNotForgotten, awaited_at};
+ghost use Rattle.tko_mux.specs.Muxes.{MayJoin};
 ghost use Rattle.tko_port.specs.Lives.{ReadyAt};
 ghost use Rattle.tko_worker.specs.Acts.{HasActed};
 ghost use Rattle.tko_worker.specs.Counts.{no_ends};
@@ -73,8 +74,8 @@ impl<P, L: Port + Drop, T: Talking<P> + Drop> Worker<L, T, P> {
     /// A client came, whose session is ready for what was read from its port and written to it,
     /// nothing as a rule. It is served in this turn. Without memory for it, it is dropped.
     pub fn open(&mut self, alloc: Global, port: L, talk: T) -> Result<usize, NoMemory>
-        requires idle { T.awaited talk ≡ [] }
-        requires session { ReadyAt T.ready self.old.mux.roster.parts.parts (L.port port) talk }
+        requires session { MayJoin T.awaited (λ it.
+            ReadyAt T.ready self.old.mux.roster.parts.parts (L.port port) it) talk }
         requires order { IsInOrder (T.awaited, T.talk, L.port) T.ready self.old }
         ensures ok { IfOk result (λ number.
             IsClientOpened (T.awaited, T.talk, L.port) self.old port talk number self.new) }

@@ -11,7 +11,6 @@ invariant-loop-server g l = record {
       g.T.Talking.ready l.clients;
   count : length l.peers.items ≡ length l.initial.peers.items;
   room : 0 < length l.buffer;
-  len : length l.buffer ≡ length l.initial.buffer;
   acted : HasActed (g.T.Talking.awaited, g.T.Talking.talk, g.L.Port.port) l.initial.clients
       l.clients;
   taken : OnTrue l.all (AreTaken (g.T.Talking.awaited, g.T.Talking.talk, g.L.Port.port)

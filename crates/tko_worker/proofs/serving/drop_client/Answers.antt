@@ -9,7 +9,7 @@ pub returns-clause-ends : goal.returns-clause-ends
 returns-clause-ends g c =
     client_left (g.T.Talking.awaited, g.T.Talking.talk, g.L.Port.port) c.args.why c.args.mux.now c.close.new.self c.args.ends.now
     c.count.new.self c.args.number c.close.result c.in-Some.guest c.close.ensures.some c.in-Some.is
-    c.close.ensures.lines c.close.ensures.limit c.count.ensures
+    c.close.ensures.lines.lines c.close.ensures.lines.limit c.count.ensures
 
 pub returns-then-not-is_resting-clause-ends : goal.returns-then-not-is_resting-clause-ends
 returns-then-not-is_resting-clause-ends g c =

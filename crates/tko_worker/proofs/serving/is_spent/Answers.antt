@@ -112,6 +112,5 @@ loop-preserved g c = record {
       (c.args.mux.now.roster, c.args.ends.now) (c.loop.mux.roster, c.loop.ends)
       (c.serve_once.new.mux.roster, c.serve_once.new.ends) c.loop.invariant.acted
       c.serve_once.ensures.acted;
-  ready = c.serve_once.ensures.ready;
-  linked = c.serve_once.ensures.linked;
+  order = c.serve_once.ensures.order;
 }

@@ -1,7 +1,6 @@
 use Rattle.std.proofs.Common.{◌≡◌, List}
 use Rattle.tko_model.specs.Records.{Gains}
-use Rattle.tko_roster.specs.Rosters.{AreReady}
-use Rattle.tko_mux.specs.Linking.{AreLinked}
+use Rattle.tko_mux.specs.Muxes.{IsMuxInOrder}
 use Rattle.tko_mux.specs.declared.mux.delivery.Done.{Done}
 use Rattle.tko_port.specs.declared.guest.Turned.{Turned}
 use Rattle.tko_port.specs.Lives.{IsGuestReady}
@@ -18,7 +17,7 @@ invariant-loop g l = record {
   others : OthersStay l.number l.initial.mux.roster.slots l.mux.roster.slots;
   acted : HaveActed (g.T.Talking.awaited, g.T.Talking.talk, g.L.Port.port)
       (l.initial.mux.roster, l.initial.ends) (l.mux.roster, l.ends);
-  ready : AreReady (λ shared client.
-      IsGuestReady g.T.Talking.ready g.L.Port.port shared.parts client.session) l.mux.roster;
-  linked : AreLinked (λ guest. g.T.Talking.awaited guest.talk) l.mux.roster.slots l.mux.lines;
+  order : IsMuxInOrder (λ shared client.
+      IsGuestReady g.T.Talking.ready g.L.Port.port shared.parts client.session)
+      (λ guest. g.T.Talking.awaited guest.talk) l.mux;
 }

@@ -9,7 +9,7 @@ pub returns-clause-round : goal.returns-clause-round
 returns-clause-round g c =
     round_begun g.H.Health c.args.moment c.args.due (state_of c.args.self.now c.args.worker.now) c.visit.new.self.mux.limit
     (parts_in c.visit.new.self).backend c.visit.new.self.mux.lines c.visit_all.result
-    (state_of c.visit_all.new.self c.visit_all.new.worker) c.visit.ensures.limit c.visit.ensures.lines
+    (state_of c.visit_all.new.self c.visit_all.new.worker) c.visit.ensures.lines.limit c.visit.ensures.lines.lines
     (ap (λ p. p.backend) c.visit.ensures.does) c.visit_all.ensures.visits
 
 pub returns-clause-parts : goal.returns-clause-parts
@@ -27,7 +27,7 @@ returns-clause-servers g c =
     servers_on
     (record {
       out = refl;
-      lines = ap length c.visit.ensures.lines;
+      lines = ap length c.visit.ensures.lines.lines;
       sockets = λ server. refl;
       count = refl;
     })

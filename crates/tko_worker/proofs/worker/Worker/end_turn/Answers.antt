@@ -11,8 +11,8 @@ loop-preserved g c =
     ≡ length c.pop.new.self.items + length (c.in-Some.number ∷ []) =
     ap length last ∙ length-append c.pop.new.self.items (c.in-Some.number ∷ []) in
     record {
-      ready = c.serve.ensures.ready;
-      linked = c.serve.ensures.linked;
+      ready = c.serve.ensures.order.ready;
+      linked = c.serve.ensures.order.linked;
       nobody = one_served (g.T.Talking.awaited, g.T.Talking.talk, g.L.Port.port)
           (λ guest. g.T.Talking.asks_for guest.talk) c.loop.self-inside.mux c.serve.new.mux
           c.in-Some.number c.args.due c.loop.self-inside.touched.items c.pop.new.self.items

@@ -7,8 +7,8 @@ use Rattle.tko_worker.proofs.worker.Worker.leave.Goals as goal
 
 pub returns-in-Some-clause-order : goal.returns-in-Some-clause-order
 returns-in-Some-clause-order g c = record {
-  ready = c.list_reached.ensures.ready;
-  linked = c.list_reached.ensures.linked;
+  ready = c.list_reached.ensures.order.ready;
+  linked = c.list_reached.ensures.order.linked;
   nobody = one_reached (g.T.Talking.awaited, g.T.Talking.talk, g.L.Port.port)
       c.self.inside.mux.roster.slots c.leave.new.self.roster.slots
       c.list_reached.new.mux.roster.slots c.in-Some.delivery c.self.inside.touched.items

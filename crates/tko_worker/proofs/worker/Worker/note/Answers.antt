@@ -11,8 +11,8 @@ use Rattle.tko_worker.proofs.worker.Worker.note.Goals as goal
 
 pub returns-clause-order : goal.returns-clause-order
 returns-clause-order g c = record {
-  ready = c.list.ensures.ready;
-  linked = c.list.ensures.linked;
+  ready = c.list.ensures.order.ready;
+  linked = c.list.ensures.order.linked;
   nobody = one_listed (g.T.Talking.awaited, g.T.Talking.talk, g.L.Port.port)
       c.self.inside.mux.roster.slots c.act.new.self.roster.slots
       c.list.new.mux.roster.slots c.args.number c.self.inside.touched.items

@@ -8,8 +8,8 @@ use Rattle.tko_worker.proofs.worker.Worker.open.Goals as goal
 
 pub returns-clause-order : goal.returns-clause-order
 returns-clause-order g c = record {
-  ready = c.list.ensures.ready;
-  linked = c.list.ensures.linked;
+  ready = c.list.ensures.order.ready;
+  linked = c.list.ensures.order.linked;
   nobody = one_listed (g.T.Talking.awaited, g.T.Talking.talk, g.L.Port.port)
       c.self.inside.mux.roster.slots c.open.new.self.roster.slots
       c.list.new.mux.roster.slots c.in_ok-number.number c.self.inside.touched.items
@@ -40,8 +40,8 @@ returns-clause-ok g c =
     (record {
       mid = c.open.new.self;
       admitted = search rules;
-      lines = c.open.ensures.lines;
-      limit = c.open.ensures.limit;
+      lines = c.open.ensures.lines.lines;
+      limit = c.open.ensures.lines.limit;
       listed = c.list.ensures.ends;
       spent = refl;
     })

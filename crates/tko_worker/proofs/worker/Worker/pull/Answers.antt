@@ -1,4 +1,4 @@
-use Rattle.std.proofs.Common.{◌∙◌, arith}
+use Rattle.std.proofs.Common.{arith}
 use Rattle.tko_worker.proofs.ActedLemmas.{acted_on, lines_acted}
 use Rattle.tko_worker.proofs.TakenLemmas.{drained_by}
 use Rattle.tko_worker.proofs.worker.Worker.pull.Goals as goal
@@ -7,37 +7,21 @@ pub returns-then-not-read-clause-drained : goal.returns-then-not-read-clause-dra
 returns-then-not-read-clause-drained g c =
     drained_by (λ guest. g.T.Talking.waits_for guest.talk) c.take_all.new.self c.read.new.self
     c.args.server _ c.if-not-take_all.ensures.open c.if-not-take_all.ensures.taken
-    c.if-not-read.ensures.none
+    c.if-not-read.ensures.read.none
 
-pub returns-then-not-take_all-clause-acted : goal.returns-then-not-take_all-clause-acted
-returns-then-not-take_all-clause-acted g c =
-    acted_on (g.T.Talking.awaited, g.T.Talking.talk, g.L.Port.port) _ (
-      c.loop.self.mux.roster,
-      c.loop.self.ends,
-    )
-    (c.take_all.new.self.mux.roster, c.take_all.new.self.ends) c.loop.invariant.acted
-    c.if-not-take_all.ensures.acted
+pub returns-then-not-take_all-clause-acts : goal.returns-then-not-take_all-clause-acts
+returns-then-not-take_all-clause-acts g c = record {
+  acted = acted_on (g.T.Talking.awaited, g.T.Talking.talk, g.L.Port.port) _ (
+    c.loop.self.mux.roster,
+    c.loop.self.ends,
+  )
+      (c.take_all.new.self.mux.roster, c.take_all.new.self.ends) c.loop.invariant.acted
+      c.if-not-take_all.ensures.acts.acted;
+  order = c.if-not-take_all.ensures.acts.order;
+}
 
-pub returns-then-not-read-clause-acted : goal.returns-then-not-read-clause-acted
-returns-then-not-read-clause-acted g c =
-    acted_on (g.T.Talking.awaited, g.T.Talking.talk, g.L.Port.port) _
-    (c.take_all.new.self.mux.roster, c.take_all.new.self.ends)
-    (c.read.new.self.mux.roster, c.read.new.self.ends)
-    (acted_on (g.T.Talking.awaited, g.T.Talking.talk, g.L.Port.port) _ (
-      c.loop.self.mux.roster,
-      c.loop.self.ends,
-    )
-    (c.take_all.new.self.mux.roster, c.take_all.new.self.ends) c.loop.invariant.acted
-    c.if-not-take_all.ensures.acted)
-    (lines_acted (g.T.Talking.awaited, g.T.Talking.talk, g.L.Port.port) c.take_all.new.self
-    c.read.new.self c.if-not-read.ensures.clients)
-
-pub loop-preserved : goal.loop-preserved
-loop-preserved g c = record {
-  order = c.if-not-read.ensures.order;
-  held = c.if-not-read.ensures.held;
-  room = omega (arith, c.if-not-read.ensures.room, c.loop.invariant.room);
-  len = c.if-not-read.ensures.room ∙ c.loop.invariant.len;
+pub returns-then-not-read-clause-acts : goal.returns-then-not-read-clause-acts
+returns-then-not-read-clause-acts g c = record {
   acted = acted_on (g.T.Talking.awaited, g.T.Talking.talk, g.L.Port.port) _
       (c.take_all.new.self.mux.roster, c.take_all.new.self.ends)
       (c.read.new.self.mux.roster, c.read.new.self.ends)
@@ -46,7 +30,26 @@ loop-preserved g c = record {
         c.loop.self.ends,
       )
       (c.take_all.new.self.mux.roster, c.take_all.new.self.ends) c.loop.invariant.acted
-      c.if-not-take_all.ensures.acted)
+      c.if-not-take_all.ensures.acts.acted)
       (lines_acted (g.T.Talking.awaited, g.T.Talking.talk, g.L.Port.port) c.take_all.new.self
-      c.read.new.self c.if-not-read.ensures.clients);
+      c.read.new.self c.if-not-read.ensures.read.clients);
+  order = c.if-not-read.ensures.order;
+}
+
+pub loop-preserved : goal.loop-preserved
+loop-preserved g c = record {
+  order = c.if-not-read.ensures.order;
+  held = c.if-not-read.ensures.held;
+  room = omega (arith, c.read.auto.buffer, c.loop.invariant.room);
+  acted = acted_on (g.T.Talking.awaited, g.T.Talking.talk, g.L.Port.port) _
+      (c.take_all.new.self.mux.roster, c.take_all.new.self.ends)
+      (c.read.new.self.mux.roster, c.read.new.self.ends)
+      (acted_on (g.T.Talking.awaited, g.T.Talking.talk, g.L.Port.port) _ (
+        c.loop.self.mux.roster,
+        c.loop.self.ends,
+      )
+      (c.take_all.new.self.mux.roster, c.take_all.new.self.ends) c.loop.invariant.acted
+      c.if-not-take_all.ensures.acts.acted)
+      (lines_acted (g.T.Talking.awaited, g.T.Talking.talk, g.L.Port.port) c.take_all.new.self
+      c.read.new.self c.if-not-read.ensures.read.clients);
 }

@@ -1,4 +1,4 @@
-use Rattle.std.proofs.Common.{◌≡◌, ◌<◌, length}
+use Rattle.std.proofs.Common.{◌<◌, length}
 use Rattle.std.specs.Option.{option_map}
 use Rattle.tko_mux.specs.Muxes.{line_at}
 use Rattle.tko_port.specs.Wires.{IsHeld}
@@ -11,6 +11,5 @@ invariant-loop g l = record {
   order : IsInOrder (g.T.Talking.awaited, g.T.Talking.talk, g.L.Port.port) g.T.Talking.ready l.self;
   held : IsHeld (option_map g.L.Port.port l.peer.socket) (line_at l.self.mux l.server);
   room : 0 < length l.buffer;
-  len : length l.buffer ≡ length l.initial.buffer;
   acted : HasActed (g.T.Talking.awaited, g.T.Talking.talk, g.L.Port.port) l.initial.self l.self;
 }

@@ -7,8 +7,8 @@ use Rattle.tko_worker.proofs.worker.Worker.take.Goals as goal
 
 pub returns-in-Ok-Some-clause-order : goal.returns-in-Ok-Some-clause-order
 returns-in-Ok-Some-clause-order g c = record {
-  ready = c.list_reached.ensures.ready;
-  linked = c.list_reached.ensures.linked;
+  ready = c.list_reached.ensures.order.ready;
+  linked = c.list_reached.ensures.order.linked;
   nobody = one_reached (g.T.Talking.awaited, g.T.Talking.talk, g.L.Port.port)
       c.self.inside.mux.roster.slots c.take.new.self.roster.slots
       c.list_reached.new.mux.roster.slots c.in-Ok-Some.delivery c.self.inside.touched.items
@@ -25,8 +25,8 @@ returns-in-Ok-Some-clause-order g c = record {
 
 pub returns-in-Ok-None-clause-order : goal.returns-in-Ok-None-clause-order
 returns-in-Ok-None-clause-order g c = record {
-  ready = c.take.ensures.ready;
-  linked = c.take.ensures.linked;
+  ready = c.take.ensures.order.ready;
+  linked = c.take.ensures.order.linked;
   nobody = unread_nobody (g.T.Talking.awaited, g.T.Talking.talk, g.L.Port.port)
       (λ guest. g.T.Talking.asks_for guest.talk)
       (λ guest. g.T.Talking.waits_for guest.talk) c.self.inside.mux c.take.new.self c.args.server
@@ -41,8 +41,8 @@ returns-in-Ok-None-clause-order g c = record {
 
 pub returns-in-Err-clause-order : goal.returns-in-Err-clause-order
 returns-in-Err-clause-order g c = record {
-  ready = c.take.ensures.ready;
-  linked = c.take.ensures.linked;
+  ready = c.take.ensures.order.ready;
+  linked = c.take.ensures.order.linked;
   nobody = unread_nobody (g.T.Talking.awaited, g.T.Talking.talk, g.L.Port.port)
       (λ guest. g.T.Talking.asks_for guest.talk)
       (λ guest. g.T.Talking.waits_for guest.talk) c.self.inside.mux c.take.new.self c.args.server

@@ -1,14 +1,16 @@
 use Rattle.tko_worker.proofs.ActedLemmas.{acted_on}
 use Rattle.tko_worker.proofs.worker.Worker.take_all.Goals as goal
 
-pub returns-then-not-take_one-clause-acted : goal.returns-then-not-take_one-clause-acted
-returns-then-not-take_one-clause-acted g c =
-    acted_on (g.T.Talking.awaited, g.T.Talking.talk, g.L.Port.port) _ (
-      c.loop.self.mux.roster,
-      c.loop.self.ends,
-    )
-    (c.take_one.new.self.mux.roster, c.take_one.new.self.ends) c.loop.invariant.acted
-    c.if-not-take_one.ensures.acted
+pub returns-then-not-take_one-clause-acts : goal.returns-then-not-take_one-clause-acts
+returns-then-not-take_one-clause-acts g c = record {
+  acted = acted_on (g.T.Talking.awaited, g.T.Talking.talk, g.L.Port.port) _ (
+    c.loop.self.mux.roster,
+    c.loop.self.ends,
+  )
+      (c.take_one.new.self.mux.roster, c.take_one.new.self.ends) c.loop.invariant.acted
+      c.if-not-take_one.ensures.acted;
+  order = c.if-not-take_one.ensures.order;
+}
 
 pub loop-preserved : goal.loop-preserved
 loop-preserved g c = record {
