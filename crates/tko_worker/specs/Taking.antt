@@ -1,5 +1,6 @@
 -- What came from the servers of a worker was taken in a turn of events.
-use Rattle.std.specs.Prelude.{◌≡◌, ◌<◌, ℕ, Bool, true, List, slice_get, unwrap_or}
+use Rattle.std.specs.Prelude.{◌≡◌, ◌<◌, ℕ, Bool, true, List, [], slice_get, unwrap_or}
+use Rattle.std.specs.Bool.{OnFalse}
 use Rattle.tko_port.specs.declared.guest.Guest.{Guest}
 use Rattle.tko_mux.specs.Muxes.{WaitsFor}
 use Rattle.tko_worker.specs.Acts.{HasActed}
@@ -23,3 +24,10 @@ abbrev pub AreTaken : {L T P : Type 0} → Sight L T → WaitsFor (Guest L T) �
     → WorkerState L T P → WorkerState L T P → Type 0
 AreTaken sight waits_for flags count old new = (server : ℕ) → server < count
     → is_flag_set flags server ≡ true → AreResponsesTaken sight waits_for old server new
+
+-- a worker was served in a turn of events: no client is left that is to be served in it; and what
+-- came from the servers was taken, unless some of it is left for the next turn
+pub record IsTurnServed {L T P : Type 0} (sight : Sight L T) (waits_for : WaitsFor (Guest L T))
+    (flags : List Bool) (count : ℕ) (is_behind : Bool) (old new : WorkerState L T P) : Type 0 where
+  pub none : new.touched ≡ []
+  pub taken : OnFalse is_behind (AreTaken sight waits_for flags count old new)

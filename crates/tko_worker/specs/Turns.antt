@@ -92,6 +92,12 @@ pub record AreAhead {L : Type 0} (port : L → PortState) (now : ℕ) (lines : L
   pub due : IsNextDue lines count it.due
   pub wants : OnFalse it.wants (NoneWanted port lines peers count)
 
+-- what is to be written to so many servers was written, and this lies ahead of them then
+pub record AreFinished {L : Type 0} (port : L → PortState) (now : ℕ) (lines : List LineState)
+    (peers : List (Peer L)) (count : ℕ) (it : Outlook) : Type 0 where
+  pub written : AreWritten port lines peers count
+  pub ahead : AreAhead port now lines peers count it
+
 -- nothing is left for the next turn: all that came from the servers was taken, and no client is
 -- served again
 pub record IsNothingLeft (is_behind : Bool) (spent : List ℕ) : Type 0 where

@@ -4,11 +4,11 @@ ghost use Rattle.std.specs.Bool.{OnFalse, OnTrue};
 ghost use Rattle.std.specs.List.{count_by};
 ghost use Rattle.tko_mux.specs.Muxes.{line_at};
 ghost use Rattle.tko_port.specs.Guests.{noting};
-ghost use Rattle.tko_worker.specs.Acts.{HasActed};
+ghost use Rattle.tko_worker.specs.Acts.{ActsInOrder, HasActed};
 ghost use Rattle.tko_worker.specs.Changes.{OnlyLinesChange};
 ghost use Rattle.tko_worker.specs.Connections.{has_socket};
-ghost use Rattle.tko_worker.specs.Taking.{AreTaken, is_flag_set};
-ghost use Rattle.tko_worker.specs.Turns.{AreAhead, AreWritten, IsAhead, IsNothingLeft, IsWanted, OtherPeers, probed_at, socket_at};
+ghost use Rattle.tko_worker.specs.Taking.{AreTaken, IsTurnServed, is_flag_set};
+ghost use Rattle.tko_worker.specs.Turns.{AreFinished, IsAhead, IsNothingLeft, IsWanted, OtherPeers, probed_at, socket_at};
 ghost use Rattle.tko_port.specs.Wires.{CannotWriteTo, HasConnected, HasFailed, IsOpen, OtherLines, link_at};
 ghost use Rattle.tko_worker.specs.Workers.{IsInOrder};
 
@@ -242,14 +242,13 @@ impl<P, L: Port + Drop, T: Talking<P> + Drop> EventWorker<L, T, P> {
     pub fn serve(&mut self, alloc: Global, buffer: &mut [u8], now: u64, due: u64)
         requires room { 0 < length buffer.old }
         requires order { IsInOrder (T.awaited, T.talk, L.port) T.ready self.old.clients }
-        ensures served { self.new.clients.touched ≡ [] }
-        ensures taken { OnFalse self.new.is_behind (AreTaken (T.awaited, T.talk, L.port)
+        ensures served { IsTurnServed (T.awaited, T.talk, L.port)
             ⟦<Guest<L, T> as Asking<SharedParts<P>>>⟧.waits_for self.old.awake.items
-            (length self.old.peers.items) self.old.clients self.new.clients) }
+            (length self.old.peers.items) self.new.is_behind self.old.clients self.new.clients }
         ensures count { length self.new.peers.items ≡ length self.old.peers.items }
         ensures room { length buffer.new ≡ length buffer.old }
-        ensures acted { HasActed (T.awaited, T.talk, L.port) self.old.clients self.new.clients }
-        ensures order { IsInOrder (T.awaited, T.talk, L.port) T.ready self.new.clients }
+        ensures acts { ActsInOrder (T.awaited, T.talk, L.port) T.ready self.old.clients
+            self.new.clients }
     {
         let awake = self.awake.as_slice();
         self.is_behind = !serve_all(
@@ -269,13 +268,11 @@ impl<P, L: Port + Drop, T: Talking<P> + Drop> EventWorker<L, T, P> {
     /// the next turn, that is to wait for events, until the first response is due.
     pub fn finish(&mut self, now: u64) -> Outlook
         requires { IsInOrder (T.awaited, T.talk, L.port) T.ready self.old.clients }
-        ensures ahead { AreAhead L.port now self.new.clients.mux.lines self.new.peers.items
+        ensures finished { AreFinished L.port now self.new.clients.mux.lines self.new.peers.items
             (length self.new.peers.items) result }
         ensures none { OnTrue result.rests
             (IsNothingLeft self.old.is_behind self.new.clients.spent) }
         ensures clients { OnlyLinesChange self.old.clients self.new.clients }
-        ensures written { AreWritten L.port self.new.clients.mux.lines self.new.peers.items
-            (length self.new.peers.items) }
         ensures count { length self.new.peers.items ≡ length self.old.peers.items }
         ensures order { IsInOrder (T.awaited, T.talk, L.port) T.ready self.new.clients }
     {
@@ -330,9 +327,7 @@ fn finish_all<P, L: Port + Drop, T: Talking<P> + Drop>(
     now: u64,
 ) -> Outlook
     requires order { IsInOrder (T.awaited, T.talk, L.port) T.ready clients.old }
-    ensures written { AreWritten L.port clients.new.mux.lines peers.new.items
-        (length peers.new.items) }
-    ensures ahead { AreAhead L.port now clients.new.mux.lines peers.new.items
+    ensures finished { AreFinished L.port now clients.new.mux.lines peers.new.items
         (length peers.new.items) result }
     ensures clients { OnlyLinesChange clients.old clients.new }
     ensures count { length peers.new.items ≡ length peers.old.items }
