@@ -1,6 +1,7 @@
 pub mod Addresses
 pub mod Held
 pub mod Loads
+pub mod Loops
 pub mod Offers
 pub mod Pauses
 pub mod Seats

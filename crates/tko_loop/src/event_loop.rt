@@ -3,6 +3,7 @@ ghost use Rattle.std.specs.Prelude.{◌≡◌, ◌<◌, ℕ, None, IfErr, IfOk, 
 ghost use Rattle.tko_roster.specs.Rosters.{session_at};
 ghost use Rattle.tko_worker.specs.Workers.{IsInOrder};
 ghost use Rattle.tko_loop.specs.Held.{held_port};
+ghost use Rattle.tko_loop.specs.Loops.{CanTurn};
 ghost use Rattle.tko_loop.specs.Waits.{MayWait};
 
 use crate::connecting::connect_all;
@@ -91,9 +92,8 @@ impl<P: Drop, T: Talking<P> + Drop, K: Drop> EventLoop<T, P, K> {
             it.worker.clients.mux.roster.parts.parts ≡ parts) }
         ensures peers { IfOk result (λ it.
             length it.worker.peers.items ≡ length servers.items) }
-        ensures order { IfOk result (λ it.
-            IsInOrder (T.awaited, T.talk, held_port) T.ready it.worker.clients) }
-        ensures room { IfOk result (λ it. 0 < length it.buffer.items) }
+        ensures can { IfOk result (λ it. CanTurn (T.awaited, T.talk, held_port) T.ready
+            it.buffer.items it.worker.clients) }
     {
         let (Ok(events), Ok(buffer), Ok(pieces)) = (
             Events::with_capacity(alloc, EVENTS),
@@ -141,15 +141,15 @@ impl<P, T: Talking<P> + Drop, K: Drop> EventLoop<T, P, K> {
         alloc: Global,
         host: &mut H,
     ) -> io::Result<()>
-        requires room { 0 < length self.old.buffer.items }
-        requires order { IsInOrder (T.awaited, T.talk, held_port) T.ready self.old.worker.clients }
-        ensures room { 0 < length self.new.buffer.items }
+        requires can { CanTurn (T.awaited, T.talk, held_port) T.ready self.old.buffer.items
+            self.old.worker.clients }
         ensures over { OnOk result ((number : ℕ)
             → number < length self.new.worker.clients.mux.roster.slots
             → session_at self.new.worker.clients.mux.roster.slots number ≡ None) }
         ensures round { OnOk result ((before : P) × H.rounds before self.new.moment
             self.new.worker.clients.mux.roster.parts.parts) }
-        ensures order { IsInOrder (T.awaited, T.talk, held_port) T.ready self.new.worker.clients }
+        ensures can { CanTurn (T.awaited, T.talk, held_port) T.ready self.new.buffer.items
+            self.new.worker.clients }
     {
         for _ in rt.forever() {
             match self.turn(rt, alloc, host)? {
@@ -167,9 +167,8 @@ impl<P, T: Talking<P> + Drop, K: Drop> EventLoop<T, P, K> {
         alloc: Global,
         host: &mut H,
     ) -> io::Result<NextTurn>
-        requires room { 0 < length self.old.buffer.items }
-        requires order { IsInOrder (T.awaited, T.talk, held_port) T.ready self.old.worker.clients }
-        ensures room { 0 < length self.new.buffer.items }
+        requires can { CanTurn (T.awaited, T.talk, held_port) T.ready self.old.buffer.items
+            self.old.worker.clients }
         ensures waits { OnOk result (MayWait self.new.moment self.new.pause
             self.new.servers.items self.new.worker) }
         ensures round { OnOk result ((before : P) × H.rounds before self.new.moment
@@ -177,7 +176,8 @@ impl<P, T: Talking<P> + Drop, K: Drop> EventLoop<T, P, K> {
         ensures over { IfOk result (λ turn. turn ≡ NextTurn.Over → (number : ℕ)
             → number < length self.new.worker.clients.mux.roster.slots
             → session_at self.new.worker.clients.mux.roster.slots number ≡ None) }
-        ensures order { IsInOrder (T.awaited, T.talk, held_port) T.ready self.new.worker.clients }
+        ensures can { CanTurn (T.awaited, T.talk, held_port) T.ready self.new.buffer.items
+            self.new.worker.clients }
     {
         let pause = Duration::from_millis(self.pause);
         self.entry.poll.poll(&mut self.events, Some(pause))?;
@@ -292,15 +292,15 @@ impl<P, T: Talking<P> + Drop, K: Drop> EventLoop<T, P, K> {
 
     /// Does what can be done, and decides how long the next turn may wait for events.
     fn end<H: Host<P, T>>(&mut self, alloc: Global, host: &mut H, intake: Intake)
-        requires room { 0 < length self.old.buffer.items }
-        requires order { IsInOrder (T.awaited, T.talk, held_port) T.ready self.old.worker.clients }
-        ensures room { 0 < length self.new.buffer.items }
+        requires can { CanTurn (T.awaited, T.talk, held_port) T.ready self.old.buffer.items
+            self.old.worker.clients }
         ensures moment { self.new.moment ≡ self.old.moment }
         ensures waits { MayWait self.new.moment self.new.pause
             self.new.servers.items self.new.worker }
         ensures round { (before : P) × H.rounds before self.new.moment
             self.new.worker.clients.mux.roster.parts.parts }
-        ensures order { IsInOrder (T.awaited, T.talk, held_port) T.ready self.new.worker.clients }
+        ensures can { CanTurn (T.awaited, T.talk, held_port) T.ready self.new.buffer.items
+            self.new.worker.clients }
     {
         let due = self.moment.saturating_add(self.limits.response);
         let buffer = self.buffer.as_mut_slice();

@@ -1,0 +1,10 @@
+-- A loop between two turns.
+use Rattle.std.specs.Prelude.{◌<◌, ℕ, List, length}
+use Rattle.tko_port.specs.Talks.{Readiness}
+use Rattle.tko_worker.specs.Workers.{IsInOrder, Sight, WorkerState}
+
+-- a loop can turn: its buffer for what servers send is not empty, and its clients are in order
+pub record CanTurn {L T P : Type 0} (sight : Sight L T) (is_ready : Readiness P T)
+    (buffer : List ℕ) (clients : WorkerState L T P) : Type 0 where
+  pub room : 0 < length buffer
+  pub order : IsInOrder sight is_ready clients
