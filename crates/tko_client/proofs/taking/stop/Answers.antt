@@ -1,4 +1,5 @@
 use Rattle.std.proofs.Common.{◌≡◌, ◌<◌, ◌≢◌, Err, ap, false, length, slice_index, subst, sym, ◌∙◌}
+use Rattle.std.specs.Prelude.{Some}
 use Rattle.tko_links.specs.Links.{most_sends}
 use Rattle.tko_reply.specs.Interactions.{with_noted}
 use Rattle.tko_client.specs.Answerings.{AreSettled}
@@ -17,27 +18,30 @@ tell_unsent-requires g c =
 
 pub stop_keys-requires : goal.stop_keys-requires
 stop_keys-requires g c =
+    let is = c.in-Some.is ∙ ap Some (sym c.get_mut.ensures.value) in
     let same = c.tell_unsent.ensures.same in record {
       servers = subst (λ p. g.H.Health.servers p.backend.health ≡ length p.config.addresses)
           (sym same) c.requires.servers;
       room = subst (λ p. slice_index p.backend.links c.args.server ≢ most_sends)
           (sym same) c.tell_unsent.ensures.room;
-      ready = subst (λ p. AreSettled p.config c.in-Some.keys) (sym same)
-          (settled c.requires.ready c.in-Some.is);
-      awaits = keys_awaits c.args.it.now c.in-Some.keys c.args.server c.in-Some.is
-          c.requires.awaits;
+      ready = subst (λ p. AreSettled p.config c.get_mut.result.now) (sym same)
+          (settled c.requires.ready is);
+      awaits = keys_awaits c.args.it.now c.get_mut.result.now c.args.server
+          is c.requires.awaits;
     }
 
 pub returns-in-Some-clause-taken : goal.returns-in-Some-clause-taken
 returns-in-Some-clause-taken g c =
+    let is = c.in-Some.is ∙ ap Some (sym c.get_mut.ensures.value) in
     let same = c.tell_unsent.ensures.same in
     keys_taken g.H.Health g.T.Trails g.H.Health.servers c.args.unsent c.args.server
-    (Err (record { sent = false })) c.args.it.now c.in-Some.keys c.stop_keys.new.keys
+    (Err (record { sent = false })) c.args.it.now c.get_mut.result.now c.stop_keys.new.keys
     c.args.parts.now
-    c.stop_keys.new.parts c.requires.ready c.in-Some.is
+    c.stop_keys.new.parts c.requires.ready
+    is
     (subst (λ p. HaveActedOnOutcome
     (client_ghosts {C = g.row.C.Denot} g.H.Health g.T.Trails) c.args.unsent c.args.server
-    (Err (record { sent = false })) (c.in-Some.keys, p)
+    (Err (record { sent = false })) (c.get_mut.result.now, p)
     (c.stop_keys.new.keys, c.stop_keys.new.parts))
     same c.stop_keys.ensures.taken)
     (subst (λ p. HasStayed g.H.Health.servers p c.stop_keys.new.parts) same

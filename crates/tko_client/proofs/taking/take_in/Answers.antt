@@ -1,4 +1,5 @@
-use Rattle.std.proofs.Common.{◌<◌, Ok, false, refl, subst, sym}
+use Rattle.std.proofs.Common.{◌<◌, ◌∙◌, Ok, ap, false, refl, subst, sym}
+use Rattle.std.specs.Prelude.{Some}
 use Rattle.tko_client.proofs.CountLemmas.{counted_once}
 use Rattle.tko_client.proofs.KeysStandLemmas.{settled}
 use Rattle.tko_client.proofs.SentToLemmas.{awaited_within, keys_awaits, sent_to}
@@ -12,22 +13,25 @@ count_sends-requires g c =
     c.requires.awaits)
 
 pub take_keys-requires : goal.take_keys-requires
-take_keys-requires g c = record {
+take_keys-requires g c = let is = c.in-Some.is ∙ ap Some (sym c.get_mut.ensures.value) in record {
   servers = c.requires.servers;
   links = subst (λ n. c.args.server < n) (sym c.requires.links)
       (awaited_within c.args.parts.now.config c.args.it.now c.args.server c.requires.ready
       c.requires.awaits);
-  ready = settled c.requires.ready c.in-Some.is;
-  awaits = keys_awaits c.args.it.now c.in-Some.keys c.args.server c.in-Some.is c.requires.awaits;
+  ready = settled c.requires.ready is;
+  awaits = keys_awaits c.args.it.now c.get_mut.result.now c.args.server
+      is c.requires.awaits;
   sent = c.requires.sent;
 }
 
 pub returns-in-Some : goal.returns-in-Some
 returns-in-Some g c =
+    let is = c.in-Some.is ∙ ap Some (sym c.get_mut.ensures.value) in
     keys_taken g.H.Health g.T.Trails g.H.Health.servers false c.args.server
-    (Ok c.args.outcome) c.args.it.now c.in-Some.keys c.take_keys.new.keys c.args.parts.now
+    (Ok c.args.outcome) c.args.it.now c.get_mut.result.now c.take_keys.new.keys c.args.parts.now
     c.take_keys.new.parts
-    c.requires.ready c.in-Some.is c.take_keys.ensures.taken c.take_keys.ensures.stays
+    c.requires.ready is
+    c.take_keys.ensures.taken c.take_keys.ensures.stays
 
 pub returns-in-Ok : goal.returns-in-Ok
 returns-in-Ok g c =
