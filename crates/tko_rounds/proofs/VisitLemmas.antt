@@ -16,12 +16,14 @@ use Rattle.tko_prober.specs.declared.prober.ProberStage.TheVariants.{Ended, Out,
 use Rattle.tko_prober.specs.Halves.{IsOut, IsResult}
 use Rattle.tko_prober.specs.Probers.{prober_of}
 use Rattle.tko_reply.specs.declared.parts.Parts.{Parts}
+use Rattle.tko_client.specs.declared.lent.Lent.{Lent}
+use Rattle.tko_worker.proofs.ChangesLemmas.{keeps_on}
 use Rattle.tko_worker.specs.Turns.{probed_at}
 use Rattle.tko_worker.specs.declared.event_worker.EventWorker.{EventWorker}
 use Rattle.tko_rounds.specs.Parts.{DueAt, OnlyProbingChanges, with_begun, with_probing}
 use Rattle.tko_rounds.specs.Probes.{IsNoneOut, IsOneOut, IsProbeCounted, ProbesState, count_of, is_counted_probe, probed_of_came, with_out}
 use Rattle.tko_rounds.specs.Rounds.{HasNext, HasProbeCome, HasProbeTaken, Lost, ProbeTaking, RoundState, asked, unasked}
-use Rattle.tko_rounds.specs.Workers.{KeepsServers}
+use Rattle.tko_rounds.specs.Workers.{KeepsServers, OnlyRoundChanges, parts_in}
 
 -- a probe is out, or is not
 stage_out : (stage : ProberStage) → (stage ≡ Out) ⊎ (stage ≡ Out → ⊥)
@@ -103,6 +105,26 @@ servers_on first second = record {
   sockets = λ server. second.sockets server ∙ first.sockets server;
   count = second.count ∙ first.count;
 }
+
+module _ {L S R H T C : Type 0} {health : HealthGhosts H} {count : H → ℕ} {port : L → PortState} where
+  -- nothing changes
+  pub only_none : (at : ProbesState × EventWorker L S (Lent R H T C health))
+      → OnlyRoundChanges count port at at
+  only_none at = record {
+    parts = probing_none (parts_in at.1.clients);
+    clients = record { slots = refl; touched = refl; spent = refl; ends = refl };
+    servers = record { out = refl; lines = refl; sockets = λ server. refl; count = refl };
+  }
+
+  -- a round changes this, and then that
+  pub only_on : {one two three : ProbesState × EventWorker L S (Lent R H T C health)}
+      → OnlyRoundChanges count port one two → OnlyRoundChanges count port two three
+      → OnlyRoundChanges count port one three
+  only_on first second = record {
+    parts = probing_on first.parts second.parts;
+    clients = keeps_on first.clients second.clients;
+    servers = servers_on first.servers second.servers;
+  }
 
 pub probed_same : {L : Type 0} (old new : List (Peer L)) (at : ℕ) → slice_get new at ≡ slice_get old at
     → probed_at new at ≡ probed_at old at

@@ -8,6 +8,7 @@ use Rattle.tko_prober.specs.Halves.{IsPassed, IsProbeSent}
 use Rattle.tko_prober.specs.Probers.{begun_at}
 use Rattle.tko_reply.specs.declared.parts.Parts.{Parts}
 use Rattle.tko_client.specs.Steps.{HasStayed}
+use Rattle.tko_rounds.specs.Probes.{IsProbeCounted, ProbesState}
 use Rattle.tko_rounds.specs.Rounds.{HasProbeCome}
 
 -- the same parts with the health and the probers of this backend
@@ -48,3 +49,10 @@ module _ {H T C : Type 0} (health : HealthGhosts H) where
     pub has_come : HasProbeCome health moment old.backend server
         (record { came = came; reply = reply }) new.backend
     pub parts : OnlyProbingChanges health.servers old new
+
+  -- a probe of this server came to this: that was recorded, and counted where it counts
+  pub record IsProbeSettled (moment server : ℕ) (came : Came)
+      (old : ProbesState × Parts H (List ℕ) T C) (reply : Option Reply)
+      (new : ProbesState × Parts H (List ℕ) T C) : Type 0 where
+    pub takes : TakesResult moment server came old.1 reply new.1
+    pub counted : IsProbeCounted came server old.0 new.0

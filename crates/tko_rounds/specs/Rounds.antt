@@ -1,7 +1,7 @@
 -- A round of an event-driven worker: at one moment each server that was marked gets its prober;
 -- then for each server, in number order, what came of its probe is taken, and the next one is sent
 -- where it is due.
-use Rattle.std.specs.Prelude.{◌≡◌, ◌≢◌, ◌+◌, ◌==◌, ◌&&◌, ℕ, Bool, true, false, List, length, map, min, count_by, slice_set, Option, Some, None}
+use Rattle.std.specs.Prelude.{◌≡◌, ◌≢◌, ◌<◌, ◌+◌, ◌==◌, ◌&&◌, ℕ, Bool, true, false, List, length, map, min, count_by, slice_set, Option, Some, None}
 use Rattle.std.specs.List.{list_any}
 use Rattle.tko_model.specs.declared.mark.Reply.{Reply}
 use Rattle.tko_model.specs.Records.{Gains}
@@ -82,6 +82,13 @@ abbrev pub begun_round : {H L C : Type 0} → ℕ → RoundState H L C → Round
 begun_round moment state = record state {
   backend = record state.backend { probers = begun_at moment state.backend.probers };
 }
+
+-- a server that a round visits: it has a count, a line and a health
+pub record IsRoundServer {H L C : Type 0} (servers : H → ℕ) (state : RoundState H L C)
+    (server : ℕ) : Type 0 where
+  pub within : server < length state.probes.out
+  pub line : server < length state.lines
+  pub health : server < servers state.backend.health
 
 -- nothing came for the probe of this server, and all stays
 pub record IsProbeAwaited {H L C : Type 0} (old : RoundState H L C) (server : ℕ)

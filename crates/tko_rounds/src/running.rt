@@ -2,12 +2,10 @@
 ghost use Rattle.std.specs.Prelude.{◌≡◌, ◌<◌, is_err, length, min};
 ghost use Rattle.std.specs.Bool.{OnFalse, OnTrue};
 ghost use Rattle.tko_client.specs.Clients.{awaits, talk_of};
-ghost use Rattle.tko_worker.specs.Changes.{KeepsClients};
 ghost use Rattle.tko_worker.specs.Workers.{IsInOrder};
-ghost use Rattle.tko_rounds.specs.Parts.{OnlyProbingChanges, TakesResult};
-ghost use Rattle.tko_rounds.specs.Probes.{IsProbeCounted};
-ghost use Rattle.tko_rounds.specs.Rounds.{AreEventVisited, HasNext, HasNoProbes, HasProbeTaken, IsEventRound, IsEventVisited, round_servers};
-ghost use Rattle.tko_rounds.specs.Workers.{KeepsServers, is_ready, parts_in, state_of};
+ghost use Rattle.tko_rounds.specs.Parts.{IsProbeSettled};
+ghost use Rattle.tko_rounds.specs.Rounds.{AreEventVisited, HasNext, HasNoProbes, HasProbeTaken, IsEventRound, IsEventVisited, IsRoundServer, round_servers};
+ghost use Rattle.tko_rounds.specs.Workers.{OnlyPartsChange, OnlyRoundChanges, is_ready, parts_in, state_of};
 
 use crate::Rounds;
 use crate::visits::{BeginProbers, FindDue, TakeResult};
@@ -47,10 +45,8 @@ impl Rounds {
             (state_of self.old worker.old) (is_err result) (state_of self.new worker.new) }
         ensures idle { HasNoProbes (parts_in worker.old.clients).backend.probers self.old
             → (self.new ≡ self.old) × (worker.new ≡ worker.old) }
-        ensures parts { OnlyProbingChanges H.servers (parts_in worker.old.clients)
-            (parts_in worker.new.clients) }
-        ensures clients { KeepsClients worker.old.clients worker.new.clients }
-        ensures servers { KeepsServers L.port (self.old, worker.old) (self.new, worker.new) }
+        ensures only { OnlyRoundChanges H.servers L.port (self.old, worker.old)
+            (self.new, worker.new) }
         ensures order { IsInOrder (awaits, talk_of, L.port) is_ready worker.new.clients }
     {
         if self.is_idle(&worker.clients) {
@@ -88,10 +84,8 @@ impl Rounds {
         requires order { IsInOrder (awaits, talk_of, L.port) is_ready worker.old.clients }
         ensures round { IsEventRound H.Health moment due (state_of self.old worker.old) result
             (state_of self.new worker.new) }
-        ensures parts { OnlyProbingChanges H.servers (parts_in worker.old.clients)
-            (parts_in worker.new.clients) }
-        ensures clients { KeepsClients worker.old.clients worker.new.clients }
-        ensures servers { KeepsServers L.port (self.old, worker.old) (self.new, worker.new) }
+        ensures only { OnlyRoundChanges H.servers L.port (self.old, worker.old)
+            (self.new, worker.new) }
         ensures order { IsInOrder (awaits, talk_of, L.port) is_ready worker.new.clients }
     {
         worker.clients.visit(BeginProbers { moment });
@@ -110,10 +104,8 @@ impl Rounds {
         ensures visits { AreEventVisited H.Health moment due (state_of self.old worker.old)
             (round_servers H.Health (state_of self.old worker.old)) result
             (state_of self.new worker.new) }
-        ensures parts { OnlyProbingChanges H.servers (parts_in worker.old.clients)
-            (parts_in worker.new.clients) }
-        ensures clients { KeepsClients worker.old.clients worker.new.clients }
-        ensures servers { KeepsServers L.port (self.old, worker.old) (self.new, worker.new) }
+        ensures only { OnlyRoundChanges H.servers L.port (self.old, worker.old)
+            (self.new, worker.new) }
         ensures order { IsInOrder (awaits, talk_of, L.port) is_ready worker.new.clients }
     {
         let mut short = false;
@@ -144,16 +136,12 @@ impl Rounds {
         moment: u64,
         due: u64,
     ) -> bool
-        requires within { server < length self.old.out }
-        requires line { server < length worker.old.clients.mux.lines }
-        requires health { server < H.servers (parts_in worker.old.clients).backend.health }
+        requires server { IsRoundServer H.servers (state_of self.old worker.old) server }
         requires order { IsInOrder (awaits, talk_of, L.port) is_ready worker.old.clients }
         ensures visit { IsEventVisited H.Health moment due
             (state_of self.old worker.old) server result (state_of self.new worker.new) }
-        ensures parts { OnlyProbingChanges H.servers (parts_in worker.old.clients)
-            (parts_in worker.new.clients) }
-        ensures clients { KeepsClients worker.old.clients worker.new.clients }
-        ensures servers { KeepsServers L.port (self.old, worker.old) (self.new, worker.new) }
+        ensures only { OnlyRoundChanges H.servers L.port (self.old, worker.old)
+            (self.new, worker.new) }
         ensures order { IsInOrder (awaits, talk_of, L.port) is_ready worker.new.clients }
     {
         self.take(worker, server, moment);
@@ -167,16 +155,12 @@ impl Rounds {
         server: usize,
         moment: u64,
     )
-        requires within { server < length self.old.out }
-        requires line { server < length worker.old.clients.mux.lines }
-        requires health { server < H.servers (parts_in worker.old.clients).backend.health }
+        requires server { IsRoundServer H.servers (state_of self.old worker.old) server }
         requires order { IsInOrder (awaits, talk_of, L.port) is_ready worker.old.clients }
         ensures taken { HasProbeTaken H.Health moment (state_of self.old worker.old) server
             (state_of self.new worker.new) }
-        ensures parts { OnlyProbingChanges H.servers (parts_in worker.old.clients)
-            (parts_in worker.new.clients) }
-        ensures clients { KeepsClients worker.old.clients worker.new.clients }
-        ensures servers { KeepsServers L.port (self.old, worker.old) (self.new, worker.new) }
+        ensures only { OnlyRoundChanges H.servers L.port (self.old, worker.old)
+            (self.new, worker.new) }
         ensures order { IsInOrder (awaits, talk_of, L.port) is_ready worker.new.clients }
     {
         if !self.is_out(server) {
@@ -199,17 +183,13 @@ impl Rounds {
         moment: u64,
         due: u64,
     ) -> bool
-        requires within { server < length self.old.out }
-        requires line { server < length worker.old.clients.mux.lines }
-        requires health { server < H.servers (parts_in worker.old.clients).backend.health }
+        requires server { IsRoundServer H.servers (state_of self.old worker.old) server }
         requires order { IsInOrder (awaits, talk_of, L.port) is_ready worker.old.clients }
         ensures next { HasNext H.Health moment due (state_of self.old worker.old) server result
             (state_of self.new worker.new) }
         ensures peers { worker.new.peers ≡ worker.old.peers }
-        ensures parts { OnlyProbingChanges H.servers (parts_in worker.old.clients)
-            (parts_in worker.new.clients) }
-        ensures clients { KeepsClients worker.old.clients worker.new.clients }
-        ensures servers { KeepsServers L.port (self.old, worker.old) (self.new, worker.new) }
+        ensures only { OnlyRoundChanges H.servers L.port (self.old, worker.old)
+            (self.new, worker.new) }
         ensures order { IsInOrder (awaits, talk_of, L.port) is_ready worker.new.clients }
     {
         if self.is_out(server) {
@@ -247,12 +227,9 @@ impl Rounds {
         requires within { server < length self.old.out }
         requires health { server < H.servers (parts_in clients.old).backend.health }
         requires order { IsInOrder (awaits, talk_of, L.port) is_ready clients.old }
-        ensures takes { TakesResult H.Health moment server came (parts_in clients.old) result
-            (parts_in clients.new) }
-        ensures counted { IsProbeCounted came server self.old self.new }
-        ensures lines { clients.new.mux.lines ≡ clients.old.mux.lines }
-        ensures limit { clients.new.mux.limit ≡ clients.old.mux.limit }
-        ensures clients { KeepsClients clients.old clients.new }
+        ensures settled { IsProbeSettled H.Health moment server came
+            (self.old, parts_in clients.old) result (self.new, parts_in clients.new) }
+        ensures only { OnlyPartsChange clients.old clients.new }
         ensures order { IsInOrder (awaits, talk_of, L.port) is_ready clients.new }
     {
         self.count(clients.parts().rt, server, &came);

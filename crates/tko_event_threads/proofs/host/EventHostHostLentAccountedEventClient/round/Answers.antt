@@ -9,4 +9,4 @@ returns-clause-round g c =
     let mid = c.run-rounded.new.worker.clients.mux.roster.parts.parts.parts in
     let new = c.end_turn.new.worker.clients.mux.roster.parts.parts.parts in
     host_round g.H.Health c.args.moment c.args.due _ _ _ _ old mid new _ _ _ c.is_err.ensures.value ran.round
-    refl refl ran.parts.others c.end_turn.ensures.counted
+    refl refl ran.only.parts.others c.end_turn.ensures.counted

@@ -1,16 +1,12 @@
-use Rattle.std.proofs.Common.{refl}
-use Rattle.tko_worker.proofs.ChangesLemmas.{keeps_on}
-use Rattle.tko_rounds.specs.Workers.{parts_in, state_of}
+use Rattle.tko_rounds.specs.Workers.{state_of}
 use Rattle.tko_rounds.proofs.RoundLemmas.{visited_more, visited_none}
-use Rattle.tko_rounds.proofs.VisitLemmas.{probing_none, probing_on, servers_on}
+use Rattle.tko_rounds.proofs.VisitLemmas.{only_none, only_on}
 use Rattle.tko_rounds.proofs.rounds.Rounds.visit_all.Goals as goal
 
 pub loop-server-init : goal.loop-server-init
 loop-server-init g c = record {
   visits = visited_none c.args.moment c.args.due (state_of c.args.self.now c.args.worker.now);
-  parts = probing_none (parts_in c.args.worker.now.clients);
-  clients = record { slots = refl; touched = refl; spent = refl; ends = refl };
-  servers = record { out = refl; lines = refl; sockets = λ server. refl; count = refl };
+  only = only_none (c.args.self.now, c.args.worker.now);
   order = c.requires.order;
 }
 
@@ -22,11 +18,9 @@ loop-server-preserved g c =
           visited_more {old = state_of c.args.self.now c.args.worker.now}
           {mid = state_of c.loop-server.self c.loop-server.worker}
           {new = state_of c.visit-short.new.self c.visit-short.new.worker} was.visits one.visit;
-      parts = probing_on was.parts one.parts;
-      clients = keeps_on was.clients one.clients;
-      servers =
-          servers_on {one = (c.args.self.now, c.args.worker.now)}
+      only =
+          only_on {one = (c.args.self.now, c.args.worker.now)}
           {two = (c.loop-server.self, c.loop-server.worker)}
-          {three = (c.visit-short.new.self, c.visit-short.new.worker)} was.servers one.servers;
+          {three = (c.visit-short.new.self, c.visit-short.new.worker)} was.only one.only;
       order = one.order;
     }

@@ -12,23 +12,21 @@ returns-clause-round g c =
     (state_of c.visit_all.new.self c.visit_all.new.worker) c.visit.ensures.lines.limit c.visit.ensures.lines.lines
     (ap (λ p. p.backend) c.visit.ensures.does) c.visit_all.ensures.visits
 
-pub returns-clause-parts : goal.returns-clause-parts
-returns-clause-parts g c =
-    probing_on
-    (probing_begun c.args.moment (parts_in c.args.worker.now.clients) (parts_in c.visit.new.self)
-    c.visit.ensures.does)
-    c.visit_all.ensures.parts
-
-pub returns-clause-clients : goal.returns-clause-clients
-returns-clause-clients g c = keeps_on c.visit.ensures.clients c.visit_all.ensures.clients
-
-pub returns-clause-servers : goal.returns-clause-servers
-returns-clause-servers g c =
-    servers_on
-    (record {
-      out = refl;
-      lines = ap length c.visit.ensures.lines.lines;
-      sockets = λ server. refl;
-      count = refl;
-    })
-    c.visit_all.ensures.servers
+pub returns-clause-only : goal.returns-clause-only
+returns-clause-only g c = record {
+  parts =
+      probing_on
+      (probing_begun c.args.moment (parts_in c.args.worker.now.clients) (parts_in c.visit.new.self)
+      c.visit.ensures.does)
+      c.visit_all.ensures.only.parts;
+  clients = keeps_on c.visit.ensures.clients c.visit_all.ensures.only.clients;
+  servers =
+      servers_on
+      (record {
+        out = refl;
+        lines = ap length c.visit.ensures.lines.lines;
+        sockets = λ server. refl;
+        count = refl;
+      })
+      c.visit_all.ensures.only.servers;
+}
