@@ -1,5 +1,5 @@
 -- What the acts of a roster mean, number by number.
-use Rattle.std.proofs.Common.{◌≡◌, ◌≢◌, ℕ, List, [], ◌∷◌, Bool, true, false, sym, ap, subst, inl, inr, Option}
+use Rattle.std.proofs.Common.{◌≡◌, ◌≢◌, ℕ, List, [], ◌∷◌, Bool, true, false, sym, ap, subst, inl, inr}
 use Rattle.std.proofs.lemmas.Bool.Decides.{eqb_tells}
 use Rattle.tko_model.specs.Records.{Gains, Lead}
 use Rattle.tko_roster.specs.Tagged.{Tagged, own, own_or}

@@ -5,7 +5,7 @@ use Rattle.std.specs.Option.{option_and_then}
 use Rattle.std.proofs.lemmas.Bool.Decides.{eqb_tells}
 use Rattle.std.proofs.lemmas.List.{get_or-set_same, get_or-set_other, length-set, set-get_or}
 use Rattle.std.proofs.lemmas.Option.{slice_get-get_or, slice_get_within, get_or_from_slice_get}
-use Rattle.tko_roster.specs.Rosters.{Acting, IsActed, IsMoved, IsNobody, IsReleased, IsSlotCall, RosterState, session_at}
+use Rattle.tko_roster.specs.Rosters.{Acting, IsActed, IsMoved, IsNobody, IsReleased, IsSlotCall, IsVacant, RosterState, session_at}
 
 pub get_set_same : {X : Type 0} (xs : List X) (i : ℕ) (x : X) → i < length xs
     → slice_get (slice_set xs i x) i ≡ Some x
@@ -105,6 +105,17 @@ idle {S} {P} p old number None slot now parts same is none kept =
           ∙ held p.slots number slot is ∙ none.0;
       kept = as_it_was;
     }
+
+-- the same where nobody is in it who could be called
+pub uncalled : {S P O : Type 0} (p old : RosterState S P) (number : ℕ) (result : Option O)
+    (slot now : Option S) (parts : P) → p ≡ old → slice_get p.slots number ≡ Some slot
+    → IfNone result (IsVacant slot p.parts now parts)
+    → IfNone result (IsNobody old number
+    (record { parts = parts; slots = slice_set p.slots number now }))
+uncalled p old number (Some output) slot now parts same is vacant = tt
+uncalled {S} {P} {O} p old number None slot now parts same is vacant =
+    idle {S = S} {P = P} {O = O} p old number None slot now parts same is
+    (vacant.none, vacant.still) vacant.kept
 
 -- all that were ready are, and the one whose slot was written
 pub ready_after : {S P : Type 0} (ready : P → S → Type 0) (slots : List (Option S)) (number : ℕ)

@@ -129,6 +129,13 @@ abbrev pub IfHas : {S : Type 0} → List (Option S) → ℕ → (S → Type 0) �
 IfHas {S} slots number holds =
     (session : S) → session_at slots number ≡ Some session → holds session
 
+-- nobody is in a slot, and nothing changes
+pub record IsVacant {S P : Type 0} (old : Option S) (before : P) (new : Option S) (after : P)
+    : Type 0 where
+  pub none : old ≡ None
+  pub still : new ≡ None
+  pub kept : after ≡ before
+
 -- nobody has the number, and nothing changes
 pub record IsNobody {S P : Type 0} (old : RosterState S P) (number : ℕ) (new : RosterState S P)
     : Type 0 where

@@ -1,7 +1,7 @@
 //! The sessions of a worker's clients, by number.
 ghost use Rattle.std.specs.Prelude.{◌≡◌, ◌<◌, ℕ, [], None, Some, IfNone, IfOk, IfSome, IsSome, OnErr, length, option_copied};
 ghost use Rattle.std.specs.Bool.{OnFalse, OnTrue};
-ghost use Rattle.tko_roster.specs.Rosters.{AreReady, IfHas, IsActed, IsAdmitted, IsNobody, IsReleased, IsSlotCall, nobody, session_at};
+ghost use Rattle.tko_roster.specs.Rosters.{AreReady, IfHas, IsActed, IsAdmitted, IsNobody, IsReleased, IsSlotCall, IsVacant, nobody, session_at};
 
 use crate::{Driven, PartsVisit};
 use std::alloc::Global;
@@ -174,8 +174,7 @@ fn act_in<P, S: Driven<P>>(
     requires may { (session : _) → slot.old ≡ Some session → S.may session input }
     ensures some { IfSome result (λ output.
         IsSlotCall S.acts slot.old parts.old (input, output) slot.new parts.new) }
-    ensures none { IfNone result ((slot.old ≡ None) × (slot.new ≡ None)) }
-    ensures kept { IfNone result (parts.new ≡ parts.old) }
+    ensures none { IfNone result (IsVacant slot.old parts.old slot.new parts.new) }
     ensures ready { (session : _) → slot.new ≡ Some session → S.ready parts.new session }
     ensures others { (session : _) → S.ready parts.old session → S.ready parts.new session }
 {

@@ -1,7 +1,7 @@
 use Rattle.std.proofs.Common.{rules, ◌≡◌, Some, subst, sym, ap, ◌∙◌}
 use Rattle.std.specs.Prelude.{slice_get}
 use Rattle.tko_roster.specs.Rosters.{AreReady, RosterState, session_at}
-use Rattle.tko_roster.proofs.SlotLemmas.{acted, at_index, held, idle, ready_after}
+use Rattle.tko_roster.proofs.SlotLemmas.{acted, at_index, held, ready_after, uncalled}
 use Rattle.tko_roster.proofs.roster.Roster.act.Goals as goal
 
 pub act_in-requires-clause-ready : goal.act_in-requires-clause-ready
@@ -32,11 +32,10 @@ returns-clause-some g c =
 
 pub returns-clause-none : goal.returns-clause-none
 returns-clause-none g c =
-    idle _ c.args.self.now c.args.number c.act_in.result c.index_mut.result.now
+    uncalled _ c.args.self.now c.args.number c.act_in.result c.index_mut.result.now
     c.act_in.new.slot c.act_in.new.parts c.self.view_is
     (at_index c.self.inside.slots.items c.args.number c.index_mut.result.now (search rules)
     c.index_mut.ensures.value) c.act_in.ensures.none
-    c.act_in.ensures.kept
 
 pub returns-clause-ready : goal.returns-clause-ready
 returns-clause-ready g c =
