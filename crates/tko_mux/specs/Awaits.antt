@@ -1,5 +1,6 @@
 -- How often a session awaits each server, and how that changes by its calls.
-use Rattle.std.specs.Prelude.{◌≡◌, ◌==◌, ◌+◌, ℕ, Bool, true, false, List, [], ◌∷◌, Option, Some, None, sum_by}
+use Rattle.std.specs.Prelude.{◌≡◌, ◌==◌, ◌+◌, ℕ, Bool, true, false, List, [], ◌∷◌, Option, Some, None, IfSome, IsSome, sum_by}
+use Rattle.tko_text.specs.declared.request.Request.{Request}
 use Rattle.tko_pipe.specs.declared.fates.Fate.TheVariants as fate
 use Rattle.tko_mux.specs.declared.asking.Came.{Came}
 use Rattle.tko_mux.specs.declared.asking.Came.TheVariants.{Fate, Unsent}
@@ -29,6 +30,13 @@ IsAsking None old new = (at : ℕ) → times_due new at ≡ times_due old at
 IsAsking (Some server) old new =
     (at : ℕ) → times_due new at ≡ times_due old at + one_if (server == at)
 
+-- a session awaits the server that it asks, if it asks one, besides those before, and has the
+-- request that is to be sent
+pub record AsksWithRequest (asked : Option ℕ) (was awaited : List ℕ) (asks_for : Option Request)
+    : Type 0 where
+  pub asks : IsAsking asked was awaited
+  pub request : IfSome asked (λ server. IsSome asks_for)
+
 -- memory ran out for one that waited
 abbrev pub no_memory : Came
 no_memory = Fate fate.Memory
@@ -41,3 +49,10 @@ pub record IsTaking (server : ℕ) (came : Came) (asked : Option ℕ) (old new :
       → times_due new at + one_if (server == at) ≡ times_due old at + one_asked asked at
   pub memory : came ≡ no_memory → asked ≡ None
   pub unsent : came ≡ Unsent → asked ≡ None
+
+-- the same of a session that took what came of a request, and may ask the next server: it has the
+-- request that is to be sent
+pub record TakesWithRequest (server : ℕ) (came : Came) (asked : Option ℕ) (was awaited : List ℕ)
+    (asks_for : Option Request) : Type 0 where
+  pub takes : IsTaking server came asked was awaited
+  pub request : IfSome asked (λ it. IsSome asks_for)

@@ -30,11 +30,11 @@ pub enum Given<I> {
 /// of its requests may be under way, also to one server: what comes from a server is of the first
 /// of those that are under way to it, in the order in which they were asked for.
 pub trait Asking<P> {
-    ghost use Rattle.std.specs.Prelude.{◌≡◌, ◌≢◌, ◌<◌, ℕ, List, [], Option, IfSome, IsSome, Some};
+    ghost use Rattle.std.specs.Prelude.{◌≡◌, ◌≢◌, ◌<◌, ℕ, List, [], Option, IsSome, Some};
     ghost use Rattle.std.specs.Bool.{OnFalse, OnTrue};
     ghost use Rattle.tko_text.specs.declared.request.Request.{Request};
     ghost use Rattle.tko_mux.specs.declared.asking.Given.{Given};
-    ghost use Rattle.tko_mux.specs.Awaits.{IsAsking, IsTaking, times_due};
+    ghost use Rattle.tko_mux.specs.Awaits.{AsksWithRequest, TakesWithRequest, times_due};
 
     type Input: Drop;
 
@@ -67,8 +67,8 @@ pub trait Asking<P> {
         requires may { may self.old input }
         ensures acts { acts (self.old, parts.old) (Given.Input input, (result.0, result.1))
             (self.new, parts.new) }
-        ensures asks { IsAsking result.0 (awaited self.old) (awaited self.new) }
-        ensures request { IfSome result.0 (λ server. IsSome (asks_for self.new)) }
+        ensures asks { AsksWithRequest result.0 (awaited self.old) (awaited self.new)
+            (asks_for self.new) }
         ensures ready { ready parts.new self.new }
         ensures stays { stays parts.old parts.new };
 
@@ -78,8 +78,8 @@ pub trait Asking<P> {
         requires awaits { 0 < times_due (awaited self.old) server }
         ensures acts { acts (self.old, parts.old) (Given.Outcome server came, (result.0, result.1))
             (self.new, parts.new) }
-        ensures asks { IsTaking server came result.0 (awaited self.old) (awaited self.new) }
-        ensures request { IfSome result.0 (λ it. IsSome (asks_for self.new)) }
+        ensures asks { TakesWithRequest server came result.0 (awaited self.old) (awaited self.new)
+            (asks_for self.new) }
         ensures ready { ready parts.new self.new }
         ensures stays { stays parts.old parts.new };
 

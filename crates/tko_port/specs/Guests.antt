@@ -1,7 +1,5 @@
 -- A client, its port and its session together, as it is called.
-use Rattle.std.specs.Prelude.{◌≡◌, ◌≢◌, ℕ, List, [], Option, None, IfSome, IsSome}
-use Rattle.tko_text.specs.declared.request.Request.{Request}
-use Rattle.tko_mux.specs.Awaits.{IsAsking}
+use Rattle.std.specs.Prelude.{◌≡◌, ◌≢◌, ℕ, List, [], Option, None, IsSome}
 use Rattle.tko_mux.specs.declared.asking.Given.{Given}
 use Rattle.tko_mux.specs.declared.asking.Given.TheVariants.{Input, Outcome}
 use Rattle.tko_port.specs.declared.guest.ClientEvent.{ClientEvent}
@@ -27,13 +25,6 @@ AsksIf Spent asked = asked ≡ None
 AsksIf (Ends why) asked = asked ≡ None
 AsksIf Noted asked = asked ≡ None
 AsksIf Took asked = Unit {0}
-
--- it awaits the server that it asks, if it asks one, besides those before, and has the request that
--- is to be sent
-pub record AsksWithRequest (asked : Option ℕ) (was awaited : List ℕ) (asks_for : Option Request)
-    : Type 0 where
-  pub asks : IsAsking asked was awaited
-  pub request : IfSome asked (λ server. IsSome asks_for)
 
 -- what serving it came to
 abbrev pub ServedAs : Turned → List ℕ → Talk → PortState → Type 0

@@ -1,6 +1,7 @@
 //! A client: its port and its session, as the multiplexer calls them.
 ghost use Rattle.std.specs.Prelude.{◌≡◌};
-ghost use Rattle.tko_port.specs.Guests.{AsksIf, AsksWithRequest, ServedAs, presence_of};
+ghost use Rattle.tko_mux.specs.Awaits.{AsksWithRequest};
+ghost use Rattle.tko_port.specs.Guests.{AsksIf, ServedAs, presence_of};
 ghost use Rattle.tko_port.specs.Lives.{ReadyAt, ReadyBy};
 
 use crate::{End, Port, Settled, Talking, settle};
