@@ -3,8 +3,14 @@ use Rattle.std.specs.Prelude.{◌≡◌, ℕ, Bool, List}
 use Rattle.tko_health.specs.declared.health.Health.{Ghosts as HealthGhosts}
 use Rattle.tko_reply.specs.declared.parts.Parts.{Parts}
 use Rattle.tko_rounds.specs.Rounds.{IsEventRound, RoundState}
+use Rattle.tko_worker.specs.Workers.{WorkerState}
 use Rattle.tko_worker.specs.declared.ends.EndCounts.{EndCounts}
 use Rattle.tko_event_threads.specs.Accounting.{AccountState, IsTurnCounted}
+
+-- the clients that are to be served in this turn and in the next stay the same
+pub record KeepsToServe {L T P : Type 0} (old new : WorkerState L T P) : Type 0 where
+  pub touched : new.touched ≡ old.touched
+  pub spent : new.spent ≡ old.spent
 
 module _ {H C : Type 0} where
   -- the clients that ended and what came of the round were counted, and nothing else was done

@@ -8,7 +8,7 @@ ghost use Rattle.tko_rounds.specs.Workers.{is_ready, parts_in};
 ghost use Rattle.tko_worker.specs.Counts.{no_ends};
 ghost use Rattle.tko_worker.specs.Workers.{IsInOrder};
 ghost use Rattle.tko_event_threads.specs.Hosts.{for_client};
-ghost use Rattle.tko_event_threads.specs.Turns.{IsTurnEnd};
+ghost use Rattle.tko_event_threads.specs.Turns.{IsTurnEnd, KeepsToServe};
 
 use crate::accounted::Accounted;
 use crate::ends::are_any;
@@ -85,8 +85,7 @@ impl<'r, R: IoRuntime> EventHost<'r, R> {
             (capped (sum_by (λ count. count) self.old.rounds.counts))
             (parts_in worker.old.clients) (parts_in worker.new.clients) }
         ensures none { worker.new.clients.ends ≡ no_ends }
-        ensures touched { worker.new.clients.touched ≡ worker.old.clients.touched }
-        ensures spent { worker.new.clients.spent ≡ worker.old.clients.spent }
+        ensures served { KeepsToServe worker.old.clients worker.new.clients }
         ensures peers { worker.new.peers ≡ worker.old.peers }
         ensures order { IsInOrder (awaits, talk_of, L.port) is_ready worker.new.clients }
     {
