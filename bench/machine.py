@@ -5,6 +5,7 @@ import os
 import re
 import subprocess
 import textwrap
+import threading
 import time
 
 import targets
@@ -18,10 +19,15 @@ def processor():
     return re.sub(r"\s*\((R|TM)\)", "", model.group(1)) if model else os.uname().machine
 
 
+def tick_counts():
+    """Of all processors since the start of the machine: user, nice, system, idle, iowait, irq, softirq, steal."""
+    with open("/proc/stat", encoding="ascii") as file:
+        return [int(field) for field in file.readline().split()[1:9]]
+
+
 def ticks():
     """Of all processors since the start of the machine: all, and those without work."""
-    with open("/proc/stat", encoding="ascii") as file:
-        fields = [int(field) for field in file.readline().split()[1:9]]
+    fields = tick_counts()
     return sum(fields), fields[3] + fields[4]
 
 
@@ -54,6 +60,39 @@ def circumstances(program):
     return [f"{now:%d %B %Y, %H:%M} UTC, on {os.cpu_count()} processors ({processor()}), of whose time other work took "
             f"{busy:.0f} % just before.",
             f"tkoproxy of SHA-256 {digest(program)}.., {', '.join(versions)}."]
+
+
+class Stolen:
+    """How much of the processors' time the host of a virtual machine took since this began."""
+
+    def __init__(self):
+        self.before = tick_counts()
+
+    def percent(self):
+        used = [after - before for after, before in zip(tick_counts(), self.before)]
+        return 100 * used[7] / max(1, sum(used))
+
+
+class Pauses:
+    """What a host does to a virtual machine while something is measured: how much of the processors' time it takes, and how
+    long all stands still. A thread sleeps again and again, and notes by how much it overslept."""
+
+    NAP = 0.02
+
+    def __init__(self):
+        self.longest = 0.0
+        self.stolen = Stolen()
+        threading.Thread(target=self.watch, daemon=True).start()
+
+    def watch(self):
+        while True:
+            began = time.monotonic()
+            time.sleep(self.NAP)
+            self.longest = max(self.longest, time.monotonic() - began - self.NAP)
+
+    def __str__(self):
+        return (f"Meanwhile the host took {self.stolen.percent():.0f} % of the processors' time, and the longest pause of the "
+                f"machine was {self.longest:.2f} s.")
 
 
 def paragraph(notes):

@@ -13,11 +13,14 @@ from ports import HOST, free_port, is_open, wait_until  # noqa: E402
 
 TICKS = os.sysconf("SC_CLK_TCK")
 
+# The time limit of an exchange, in milliseconds, where no server is to fail: longer than the machine stands still.
+PATIENT = 10_000
+
 NUTCRACKER = """bench:
   listen: {listen}
   hash: fnv1a_32
   distribution: modula
-  timeout: 1000
+  timeout: {timeout}
   preconnect: true
   server_connections: 1
   servers:
@@ -119,12 +122,14 @@ def threads_mode(program):
 
 def tkoproxy_threads(name, program, servers, connections):
     """The program with as many workers as there are connections, one for each."""
-    return tkoproxy_of(name, program, config_of(servers), [*threads_mode(program), "--threads", str(connections)])
+    return tkoproxy_of(name, program, config_of(servers),
+                       [*threads_mode(program), "--threads", str(connections), "--timeout", str(PATIENT)])
 
 
 def tkoproxy_events(name, program, servers, workers, *more):
     """The program with so many event-driven workers, and with more options."""
-    return tkoproxy_of(name, program, config_of(servers), ["--mode", "events", "--threads", str(workers), *more])
+    return tkoproxy_of(name, program, config_of(servers),
+                       ["--mode", "events", "--threads", str(workers), "--timeout", str(PATIENT), *more])
 
 
 def config_of(servers):
@@ -138,7 +143,7 @@ def tkoproxy_of(name, program, config, options):
 
 
 def nutcracker(servers, folder):
-    return nutcracker_of(NUTCRACKER, folder, servers="\n".join(f"   - {server}:1" for server in servers))
+    return nutcracker_of(NUTCRACKER, folder, timeout=PATIENT, servers="\n".join(f"   - {server}:1" for server in servers))
 
 
 def nutcracker_of(template, folder, **fields):
