@@ -2,13 +2,14 @@
 ghost use Rattle.std.specs.Prelude.{◌≡◌, ◌≤◌, ◌<◌, ◌-◌, ◌++◌, [], ◌∷◌, All, IfOk, OnErr, OnOk, drop, length};
 ghost use Rattle.std.specs.List.{list_any};
 ghost use Rattle.std.specs.Str.{bytes_eq};
-ghost use Rattle.tko_text.specs.KeyHashes.{AreSeen, hash_step, hashed_bytes, key_hash};
+ghost use Rattle.tko_text.specs.KeyHashes.{AreSeen, hashed_bytes, key_hash};
 
 use super::place::ValuePlace;
 use super::reader::Head;
 use crate::{Key, NoMemory};
 use std::alloc::Global;
 use std::marker::Model;
+use tko_bytes::fnv1a_from;
 
 /// How many flags there are for each key.
 const FLAGS: usize = 8;
@@ -18,9 +19,6 @@ const ROOM: usize = 64;
 
 /// How many of its last bytes a key is hashed by.
 const HASHED_BYTES: usize = 16;
-
-/// What a hash is multiplied by for each byte: the prime of FNV-1a.
-const FNV_PRIME: u32 = 16_777_619;
 
 /// The places of the values that were read so far, and a flag for each hash that one of their keys
 /// may have. So a key that is new is seldom compared with the others. Contracts see the places.
@@ -95,9 +93,7 @@ impl Places {
 fn key_hash_of(key: &[u8]) -> usize
     ensures { result ≡ key_hash key.now }
 {
-    last_bytes(key)
-        .iter()
-        .fold(0, |hash, byte| with_byte(hash, *byte)) as usize
+    fnv1a_from(0, last_bytes(key)) as usize
 }
 
 /// The bytes that a key is hashed by.
@@ -105,11 +101,4 @@ fn last_bytes(key: &[u8]) -> &[u8]
     ensures { result.now ≡ drop (length key.now - hashed_bytes) key.now }
 {
     key.split_at(key.len().saturating_sub(HASHED_BYTES)).1
-}
-
-/// The hash with one more byte.
-fn with_byte(hash: u32, byte: u8) -> u32
-    ensures { result ≡ hash_step hash byte }
-{
-    (hash ^ u32::from(byte)).wrapping_mul(FNV_PRIME)
 }
