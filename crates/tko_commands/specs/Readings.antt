@@ -1,5 +1,5 @@
 -- A text that was read from an inlet, and why one can't be read.
-use Rattle.std.specs.Prelude.{ℕ, ◌<◌, ◌≤◌, ◌⊎◌, List, length}
+use Rattle.std.specs.Prelude.{ℕ, ◌≡◌, ◌+◌, ◌<◌, ◌≤◌, ◌⊎◌, List, length}
 use Rattle.tko_commands.specs.declared.reading.InputFault.{InputFault}
 use Rattle.tko_commands.specs.declared.reading.InputFault.TheVariants as fault
 
@@ -9,6 +9,11 @@ pub record IsText {I : Type 0} (gives : I → List ℕ → I → Type 0) (is_end
   pub came : gives old text new
   pub within : length text ≤ most
   pub whole : is_ended new ⊎ (most ≤ length text)
+
+-- a text has `count` bytes more, and no more than `most`
+pub record IsLongerBy (count most : ℕ) (old new : List ℕ) : Type 0 where
+  pub longer : length new ≡ length old + count
+  pub within : count ≤ most
 
 -- the inlet failed, or memory ran out
 abbrev pub HasReadFault : {I : Type 0} → (I → ℕ) → I → I → InputFault → Type 0

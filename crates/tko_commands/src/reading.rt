@@ -1,6 +1,6 @@
 //! Whole texts from an inlet.
 ghost use Rattle.std.specs.Prelude.{◌≡◌, ◌<◌, ◌≤◌, ◌+◌, ◌⊎◌, Ok, IfOk, IfErr, OnOk, length};
-ghost use Rattle.tko_commands.specs.Readings.{HasReadFault, IsText};
+ghost use Rattle.tko_commands.specs.Readings.{HasReadFault, IsLongerBy, IsText};
 
 use std::alloc::{AllocError, Global};
 use tko_io::{Inlet, IoRuntime, piece_buffer, wait_for_piece};
@@ -56,9 +56,8 @@ fn append_piece<R: IoRuntime, I: Inlet>(
     requires { 0 < length buffer.old }
     ensures gives { (start : I) → I.gives start text.old.items input.old
         → OnOk result (I.gives start text.new.items input.new) }
-    ensures count { IfOk result (λ count.
-        length text.new.items ≡ length text.old.items + count) }
-    ensures within { IfOk result (λ count. count ≤ length buffer.old) }
+    ensures longer { IfOk result (λ count.
+        IsLongerBy count (length buffer.old) text.old.items text.new.items) }
     ensures ended { result ≡ Ok 0 → I.is_ended input.new }
     ensures calm { OnOk result (I.failures input.new ≡ I.failures input.old) }
     ensures err { IfErr result (HasReadFault I.failures input.old input.new) }

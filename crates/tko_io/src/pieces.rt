@@ -1,6 +1,6 @@
 //! How a client's bytes are read.
-ghost use Rattle.std.specs.Prelude.{◌≡◌, ◌<◌, ◌≤◌, ◌+◌, ℕ, [], Some, IfOk, IfSome, OnSome, IfNone, length, take, vec_len};
-ghost use Rattle.tko_io.specs.Pieces.{IsPiece, fails_in, idle_in};
+ghost use Rattle.std.specs.Prelude.{◌≡◌, ◌<◌, ◌+◌, ℕ, [], IfOk, IfSome, OnSome, IfNone, length, vec_len};
+ghost use Rattle.tko_io.specs.Pieces.{IsPiece, IsRead, fails_in, idle_in};
 
 use crate::{Inlet, IoRuntime, Stop};
 use std::alloc::{AllocError, Global};
@@ -52,9 +52,8 @@ pub fn wait_for_piece<R: IoRuntime, I: Inlet>(
     buffer: &mut [u8],
 ) -> Option<usize>
     requires { 0 < length buffer.old }
-    ensures within { IfSome result (λ count. count ≤ length buffer.new) }
-    ensures gives { IfSome result (λ count. I.gives reader.old (take count buffer.new) reader.new) }
-    ensures ended { result ≡ Some 0 → I.is_ended reader.new }
+    ensures some { IfSome result (λ count.
+        IsRead I.gives I.is_ended reader.old count buffer.new reader.new) }
     ensures calm { OnSome result (I.failures reader.new ≡ I.failures reader.old) }
     ensures none { IfNone result (I.gives reader.old [] reader.new) }
     ensures failed { IfNone result (I.failures reader.old < I.failures reader.new) }

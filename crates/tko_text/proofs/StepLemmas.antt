@@ -118,7 +118,7 @@ pub pending_open : (p : Pending) (u v : List ℕ) → IsPending p → EndsData p
     → Steps (reading_of (state.Data p) u) None (reading_of (state.Data p) v)
 pending_open p u v is found = (
   subst (λ xs. NeedsMore (at xs)) (pending_bytes p is)
-      (NeedsMore-data is.before p.data.items p.header.size (request_with p.header) is.is_line is.parsed_is found),
+      (NeedsMore-data is.before p.data.items p.header.size (request_with p.header) is.is_line is.header_is.parsed_is found),
   refl,
 )
 
@@ -128,7 +128,7 @@ pub pending_whole : (p : Pending) (u left : List ℕ) → IsPending p → EndsDa
 pending_whole p u left is found left_is = (
   subst (λ b. Emits (at (p.line.items ++ p.data.items)) (item.Request (request_with p.header (take p.header.size p.data.items))) (at b)) (sym left_is)
       (subst (λ xs. Emits (at xs) (item.Request (request_with p.header (take p.header.size p.data.items))) (at (drop (p.header.size + 1 + 1) p.data.items))) (pending_bytes p is)
-      (Emits-whole is.before p.data.items p.header.size (request_with p.header) is.is_line is.parsed_is found)),
+      (Emits-whole is.before p.data.items p.header.size (request_with p.header) is.is_line is.header_is.parsed_is found)),
   λ e. cc,
 )
 
@@ -137,7 +137,7 @@ pub pending_wrong_line : (p : Pending) (u left : List ℕ) (count : ℕ) → IsP
 pending_wrong_line p u left count is found left_is = (
   subst (λ b. Emits (at (p.line.items ++ p.data.items)) (item.Fault fault.BadChunk) (at b)) (sym left_is)
       (subst (λ xs. Emits (at xs) (item.Fault fault.BadChunk) (at (drop count p.data.items))) (pending_bytes p is)
-      (Emits-wrong_line is.before p.data.items p.header.size (request_with p.header) is.is_line is.parsed_is count found)),
+      (Emits-wrong_line is.before p.data.items p.header.size (request_with p.header) is.is_line is.header_is.parsed_is count found)),
   λ e. cc,
 )
 
@@ -146,7 +146,7 @@ pub pending_wrong : (p : Pending) (u left : List ℕ) (count : ℕ) (to : Readin
 pending_wrong p u left count to is found left_is to_is = (
   subst (λ t. Emits (at (p.line.items ++ p.data.items)) (item.Fault fault.BadChunk) t) (sym (to_is ∙ ap (λ b. passed PassLine b) left_is))
       (subst (λ xs. Emits (at xs) (item.Fault fault.BadChunk) (passed PassLine (drop count p.data.items))) (pending_bytes p is)
-      (Emits-wrong is.before p.data.items p.header.size (request_with p.header) is.is_line is.parsed_is count found)),
+      (Emits-wrong is.before p.data.items p.header.size (request_with p.header) is.is_line is.header_is.parsed_is count found)),
   λ e. cc,
 )
 

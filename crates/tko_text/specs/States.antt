@@ -1,6 +1,7 @@
 -- The state of reading that a reader's state stands for.
-use Rattle.std.specs.Prelude.{◌≡◌, ◌<◌, ◌≤◌, ℕ, List, [], ◌∷◌, ◌++◌, length, take, Option, Some, None}
+use Rattle.std.specs.Prelude.{◌≡◌, ◌<◌, ◌≤◌, ℕ, List, [], ◌∷◌, ◌++◌, drop, length, take, Option, Some, None}
 use Rattle.tko_bytes.specs.Lines.{content, line_feed}
+use Rattle.tko_text.specs.declared.line.Header.{Header}
 use Rattle.tko_text.specs.declared.pending.Pending.{Pending}
 use Rattle.tko_text.specs.declared.state.ReaderState.{ReaderState}
 use Rattle.tko_text.specs.declared.state.ReaderState.TheVariants as state
@@ -31,14 +32,24 @@ Steps from None to = NeedsMore from × (to ≡ from)
 Steps from (Some emitted) to =
     Emits from emitted to × (emitted ≡ item.Fault LineTooLong → to.after ≡ Never)
 
+-- these are the words of a request whose data follow, and its header
+pub record IsHeaderOf (words : List ℕ) (header : Header) : Type 0 where
+  pub parsed_is : parsed words ≡ AwaitsData header.size (request_with header)
+  pub small : header.size ≤ data_limit
+
 -- a header, and the line that it was parsed from
 pub record IsPending (pending : Pending) : Type 0 where
   pub before : List ℕ
   pub is_line : IsLine before
   pub line_is : pending.line.items ≡ before ++ line_feed ∷ []
-  pub parsed_is : parsed (content before)
-      ≡ AwaitsData pending.header.size (request_with pending.header)
-  pub small : pending.header.size ≤ data_limit
+  pub header_is : IsHeaderOf (content before) pending.header
+
+-- this header awaits data, with the first `len` bytes as its line and the others as data so far
+pub record IsPendingAfter (header : Header) (len : ℕ) (bytes : List ℕ) (pending : Pending)
+    : Type 0 where
+  pub header_is : pending.header ≡ header
+  pub line_is : pending.line.items ≡ take len bytes
+  pub rest : pending.data.items ≡ drop len bytes
 
 -- but for a line that is awaited, the buffer is empty
 abbrev pub IsState : ReaderState → List ℕ → Type 0

@@ -1,11 +1,9 @@
 //! The next item of each state.
-ghost use Rattle.std.specs.Prelude.{◌≡◌, ◌+◌, ◌≤◌, [], Some, length, take, drop, IfOk, OnErr};
+ghost use Rattle.std.specs.Prelude.{◌≡◌, ◌+◌, ◌≤◌, [], Some, length, take, IfOk, OnErr};
 ghost use Rattle.tko_bytes.specs.Lines.{content};
-ghost use Rattle.tko_text.specs.Commands.{AwaitsData, parsed};
 ghost use Rattle.tko_text.specs.Limits.{data_limit};
 ghost use Rattle.tko_text.specs.Lines.{IsBeyond, IsEndedAt};
-ghost use Rattle.tko_text.specs.Parsed.{request_with};
-ghost use Rattle.tko_text.specs.States.{HasData, IsDataState, IsState, Steps, at, reading_of, whole_request};
+ghost use Rattle.tko_text.specs.States.{HasData, IsDataState, IsHeaderOf, IsPendingAfter, IsState, Steps, at, reading_of, whole_request};
 
 use crate::buffer::Buffer;
 use crate::data::{DataEnd, END_LEN, data_end};
@@ -82,9 +80,7 @@ fn read_data(
 ) -> Result<Option<Item>, NoMemory>
     requires line { IsEndedAt buffer.old len }
     requires awaits { state.old ≡ ReaderState.Line }
-    requires header { parsed (content (take len buffer.old))
-        ≡ AwaitsData header.size (request_with header) }
-    requires size { header.size ≤ data_limit }
+    requires header { IsHeaderOf (content (take len buffer.old)) header }
     ensures is { IfOk result (λ found. IsState state.new buffer.new) }
     ensures ok { IfOk result (λ found.
         Steps (at buffer.old) found (reading_of state.new buffer.new)) }
@@ -123,9 +119,7 @@ fn pending_of(
 ) -> Result<Pending, NoMemory>
     requires line { len ≤ length buffer.old }
     requires size { header.size ≤ data_limit }
-    ensures header { IfOk result (λ pending. pending.header ≡ header) }
-    ensures line { IfOk result (λ pending. pending.line.items ≡ take len buffer.old) }
-    ensures bytes { IfOk result (λ pending. pending.data.items ≡ drop len buffer.old) }
+    ensures pending { IfOk result (IsPendingAfter header len buffer.old) }
     ensures empty { IfOk result (λ pending. buffer.new ≡ []) }
     ensures err { OnErr result (buffer.new ≡ buffer.old) }
 {

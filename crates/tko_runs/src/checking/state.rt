@@ -2,7 +2,7 @@
 ghost use Rattle.std.specs.Prelude.{◌≡◌, ◌+◌, ◌<◌, ◌^◌, ◌↔◌, true, length, IfOk, IfErr, OnOk};
 ghost use Rattle.tko_model.specs.Ranges.{IsWithinRanges};
 ghost use Rattle.tko_runs.specs.Words.{room_at};
-ghost use Rattle.tko_runs.specs.States.{CanCome, HasCall, HasPlace, entry_at};
+ghost use Rattle.tko_runs.specs.States.{CanCome, CanStep, HasPlace};
 ghost use Rattle.tko_runs.specs.Orders.{FollowsAt};
 ghost use Rattle.tko_steps.specs.Core.{word_at};
 ghost use Rattle.tko_runs.specs.CheckStates.{AreJudged, HasEntered, HasFollowed, IsCheckState, IsCheckOpened, IsIllegalFault, IsRefusalFault, IsStrayFault};
@@ -87,9 +87,7 @@ impl CheckState {
         answer: Option<Reply>,
     ) -> Result<(), RunFault>
         requires state { IsCheckState self.old }
-        requires thread { thread < length self.old.run.threads }
-        requires call { HasCall (entry_at self.old.run thread) }
-        requires place { HasPlace self.old.run.words place }
+        requires comes { CanStep true self.old.run thread place found left answer }
         requires room { self.old.steps + 1 < 2 ^ 64 }
         ensures ok { OnOk result
             (HasFollowed self.old thread kind place found left answer self.new) }
