@@ -26,6 +26,13 @@ pub record HasRun (options : Options) (tracker : TrackerId) (ran : Ran) : Type 0
   pub on_options : ran.options.value ≡ options
   pub over : ran.tracker.value ≡ tracker
 
+-- a server ran on these options to its end over this tracker: as many connections were accepted as
+-- they ask for, and the tracker was closed
+pub record HasRunToEnd (options : Options) (tracker : TrackerId) (ended : Ended) : Type 0 where
+  pub ran : HasRun options tracker ended.ran
+  pub enough : IsEnough options.connections ended.accepted
+  pub closed : IsClosed tracker ended.closed
+
 -- a server ran on these options to its end: as many connections were accepted as they ask for; the
 -- tracker that its workers had passes of has the settings of the options, and was closed
 pub record HasServerEnded (options : Options) (ended : Ended) : Type 0 where

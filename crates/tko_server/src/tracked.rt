@@ -2,7 +2,7 @@
 ghost use Rattle.std.specs.Prelude.{◌≡◌, IfErr, IfOk, length};
 ghost use Rattle.tko_tracker.specs.Seated.{ArePasses};
 ghost use Rattle.tko_server.specs.Announcing.{IsAnnounced, fault_in};
-ghost use Rattle.tko_server.specs.Closing.{HasRun, HasRunFailed, IsClosed, unclosed};
+ghost use Rattle.tko_server.specs.Closing.{HasRun, HasRunFailed, HasRunToEnd, unclosed};
 ghost use Rattle.tko_server.specs.Endings.{IsEnough};
 ghost use Rattle.tko_server.specs.Runs.{IsAfterOpening, tracker_settings};
 
@@ -51,10 +51,7 @@ pub(crate) fn run_with<
     requires named { tracker ≡ N.tracker }
     requires asked { N.tracker.settings ≡ tracker_settings options.now }
     requires passes { ArePasses N.tracker passes.items }
-    ensures ran { IfOk result.1 (λ ended. HasRun options.now N.tracker ended.ran) }
-    ensures closed { IfOk result.1 (λ ended. IsClosed N.tracker ended.closed) }
-    ensures enough { IfOk result.1 (λ ended.
-        IsEnough options.now.connections ended.accepted) }
+    ensures ended { IfOk result.1 (HasRunToEnd options.now N.tracker) }
     ensures failed { IfErr result.1 (HasRunFailed N.tracker) }
     ensures announced { IsAnnounced A.announces A.fails run.entry.announcement result.0
         (fault_in result.1) }

@@ -10,7 +10,7 @@ use Rattle.tko_table.specs.declared.pass.PassView.{PassView}
 use Rattle.tko_table.specs.History.{Begins}
 use Rattle.tko_table.specs.Passes.{HasItsChanges, count_enrolled, enrolled_pass}
 use Rattle.tko_table.specs.Rule.{core_in, enrolment_place, joined_passes}
-use Rattle.tko_table.specs.Steps.{Enrolled}
+use Rattle.tko_table.specs.Enrolments.{Enrolled}
 use Rattle.tko_table.proofs.AllowsLemmas.{Rule, Seat}
 use Rattle.tko_table.proofs.EnrolLemmas.{drawn-alone, first-open}
 use Rattle.tko_table.proofs.EnrolRuleLemmas.{core-enrols, enrol-kept, few, fewer, one}

@@ -33,7 +33,7 @@ use Rattle.tko_table.specs.Passes.{StandsIn, PassOwnsItsMarks, HasItsChanges, en
 use Rattle.tko_table.specs.Passes.{is_marked_by}
 use Rattle.tko_table.specs.Rule.{IsKept, IsPlanned, core_in, enrolment_place, joined_passes}
 use Rattle.tko_table.specs.Rule.{shared_in, states_of}
-use Rattle.tko_table.specs.Steps.{EnrolsIn}
+use Rattle.tko_table.specs.Enrolments.{EnrolsIn}
 use Rattle.tko_table.proofs.AddedChangeLemmas.{none-made}
 use Rattle.tko_table.proofs.HistoryLemmas.{Begins-all}
 use Rattle.tko_table.proofs.JoinedLemmas.{IsOneOf, one-joined}

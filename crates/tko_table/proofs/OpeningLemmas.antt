@@ -16,7 +16,7 @@ use Rattle.tko_table.specs.History.{changes_in, made_by}
 use Rattle.tko_table.specs.Opening.{ArePassesFrom, HasPassesFrom, IsPassAt}
 use Rattle.tko_table.specs.Passes.{HasItsChanges, StandsIn, pending, count_enrolled, enrol_first}
 use Rattle.tko_table.specs.Passes.{enrolled_pass, new_pass, new_passes}
-use Rattle.tko_table.specs.Steps.{DrawsNumber}
+use Rattle.tko_table.specs.Enrolments.{DrawsNumber}
 
 pub drawn-state : (s : Settings) (drawn place : ℕ) (pass : PassView) → IsPassAt s drawn place pass
     → place < drawn → pass.state ≡ Idle place

@@ -18,7 +18,8 @@ use Rattle.tko_steps.specs.Table.{action_of}
 use Rattle.tko_table.specs.declared.pass.PassView.{PassView}
 use Rattle.tko_table.specs.Passes.{count_enrolled}
 use Rattle.tko_table.specs.Rule.{enrolment_place, health_place, soft_place}
-use Rattle.tko_table.specs.Steps.{Enrolled, Exchanged, Looked, Plays, LookedAtSlots}
+use Rattle.tko_table.specs.Enrolments.{Enrolled}
+use Rattle.tko_table.specs.Steps.{Exchanged, Looked, Plays, LookedAtSlots}
 use Rattle.tko_table.proofs.AllowsLemmas.{Rule, Seat}
 use Rattle.tko_table.proofs.AllowsStepLemmas.{allows-exchange, allows-look}
 use Rattle.tko_table.proofs.AllowsSoftLemmas.{allows-give, allows-loosen, allows-settle}

@@ -1,5 +1,6 @@
 pub mod Callers
 pub mod Closing
+pub mod Enrolments
 pub mod History
 pub mod Opening
 pub mod Passes

@@ -99,7 +99,7 @@ pub(crate) struct Enrols;
 
 impl Play<(), View> for Enrols {
     ghost use Rattle.std.specs.Prelude.{◌≡◌};
-    ghost use Rattle.tko_table.specs.Steps.{Enrolled};
+    ghost use Rattle.tko_table.specs.Enrolments.{Enrolled};
 
     ghost then = { λ step old found new. Enrolled old found new × (new.1 ≡ old.1) };
 }

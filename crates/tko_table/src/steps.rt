@@ -12,7 +12,8 @@ ghost use Rattle.tko_steps.specs.declared.step.StepKind.TheVariants as kind;
 ghost use Rattle.tko_steps.specs.Steps.{is_marked_state, kind_of_exchange};
 ghost use Rattle.tko_table.specs.Passes.{count_enrolled, passes_raised};
 ghost use Rattle.tko_table.specs.Rule.{health_place};
-ghost use Rattle.tko_table.specs.Steps.{CanLook, DrawsNumber, IsAt, IsExchangeAt, IsLook, IsSameSeat, IsShift, IsSound, Looked, Took, is_look_at_slots, is_settle, view_of};
+ghost use Rattle.tko_table.specs.Enrolments.{DrawsNumber};
+ghost use Rattle.tko_table.specs.Steps.{CanLook, IsAt, IsExchangeAt, IsLook, IsSameSeat, IsShift, IsSound, Looked, Took, is_look_at_slots, is_settle, view_of};
 
 use crate::plays::{
     self, BothAsSeen, BothPasses, ChangesSlots, Exchanges, FailsHard, FailsSoftly, FirstPass,
