@@ -1,5 +1,5 @@
 -- Requests sent to servers: what came of each, and how they are counted.
-use Rattle.std.specs.Prelude.{◌≡◌, ℕ, Bool, true, false, ◌==◌, ◌&&◌, if◌then◌else◌, MatchBool, Option, Some, None, Result, Ok, Err}
+use Rattle.std.specs.Prelude.{◌≡◌, ◌↔◌, ℕ, Bool, true, false, ◌==◌, ◌&&◌, if◌then◌else◌, MatchBool, Option, Some, None, Result, Ok, Err}
 use Rattle.tko_text.specs.declared.request.Request.{Request}
 use Rattle.tko_links.specs.declared.links.Outcome.{Outcome}
 use Rattle.tko_links.specs.declared.links.Outcome.TheVariants as outcome
@@ -37,6 +37,11 @@ part_of sent to server = if sent && (to == server) then 1 else 0
 abbrev pub outcome_in : Result Outcome ExchangeNoMemory → Option Outcome
 outcome_in (Ok came) = Some came
 outcome_in (Err fault) = None
+
+-- a call ends as `Spent` exactly where this count was used up, and never as `Aborted`
+pub record EndsUnaborted (count : ℕ) (result : Result Outcome ExchangeNoMemory) : Type 0 where
+  pub spent : (result ≡ Ok outcome.Spent) ↔ (count ≡ most_sends)
+  pub aborted : ¬ (result ≡ Ok outcome.Aborted)
 
 -- a call that counted a send is one item, and one that counted none changed nothing
 abbrev pub HasExchanged : {L : Type 0} → (L → LinksItem → L → Type 0) → L → ℕ → Request

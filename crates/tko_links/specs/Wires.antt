@@ -1,5 +1,5 @@
 -- Connections to servers: what each call on them did, and what it says.
-use Rattle.std.specs.Prelude.{◌≡◌, ◌≢◌, ℕ, Bool, true, false, List, ◌&&◌, ◌==◌, if◌then◌else◌, length, nat_lt, slice_set, take, Result, Ok, Err}
+use Rattle.std.specs.Prelude.{◌≡◌, ◌≢◌, ℕ, ◌<◌, Bool, true, false, List, ◌&&◌, ◌==◌, if◌then◌else◌, length, nat_lt, slice_set, take, Result, Ok, Err}
 use Rattle.tko_links.specs.declared.wire.WireFault.{WireFault}
 
 -- an item of a wire's record: one call, and what it did
@@ -57,6 +57,26 @@ AllSame old new = (other : ℕ) → new other ≡ old other
 -- the same but at this server
 abbrev pub OthersSame : ℕ → (ℕ → Bool) → (ℕ → Bool) → Type 0
 OthersSame server old new = (other : ℕ) → other ≢ server → new other ≡ old other
+
+-- this server may be connected: it is there, and it is not connected yet
+pub record MayConnect {W : Type 0} (count : W → ℕ) (is_connected : W → ℕ → Bool) (wire : W)
+    (server : ℕ) : Type 0 where
+  pub within : server < count wire
+  pub shut : is_connected wire server ≡ false
+
+-- bytes may be written to this server: it is there, and it is connected
+pub record MayWrite {W : Type 0} (count : W → ℕ) (is_connected : W → ℕ → Bool) (wire : W)
+    (server : ℕ) : Type 0 where
+  pub within : server < count wire
+  pub connected : is_connected wire server ≡ true
+
+-- bytes of this server may be read into this buffer: the server is there, it is connected, and the
+-- buffer has room
+pub record MayRead {W : Type 0} (count : W → ℕ) (is_connected : W → ℕ → Bool) (wire : W)
+    (server : ℕ) (buffer : List ℕ) : Type 0 where
+  pub within : server < count wire
+  pub connected : is_connected wire server ≡ true
+  pub room : 0 < length buffer
 
 -- which servers are connected after an item
 abbrev pub connected_after : List Bool → WireItem → List Bool

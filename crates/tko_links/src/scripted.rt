@@ -1,6 +1,6 @@
 //! Links in memory, which play a list of scripts.
-ghost use Rattle.std.specs.Prelude.{◌≡◌, ◌<◌, ◌+◌, ◌↔◌, ℕ, [], true, false, IfOk, IfErr, OnErr, OnOk, length, replicate, slice_index};
-ghost use Rattle.tko_links.specs.Links.{HasExchanged, WasProbed, is_counted, most_sends, outcome_in, part_of};
+ghost use Rattle.std.specs.Prelude.{◌≡◌, ◌<◌, ◌+◌, ℕ, [], true, false, IfOk, IfErr, OnErr, OnOk, length, replicate, slice_index};
+ghost use Rattle.tko_links.specs.Links.{EndsUnaborted, HasExchanged, WasProbed, is_counted, most_sends, outcome_in, part_of};
 ghost use Rattle.tko_links.specs.Scripted.{ComesOfBytes, Hits, HitsKeys, IsPlayed, hit_text};
 
 use crate::links::{ExchangeNoMemory, Links, Outcome};
@@ -258,7 +258,7 @@ impl Scripted {
     }
 }
 
-/// The clauses are those of `Links`, and that nothing is aborted.
+/// The clauses are those of `Links`; `ends` is its `spent`, and that nothing is aborted.
 impl Links for Scripted {
     ghost servers = { λ links. length links.sends };
 
@@ -276,14 +276,12 @@ impl Links for Scripted {
     ) -> Result<Outcome, ExchangeNoMemory>
         requires { clear < length self.old.sends }
         ensures record { HasExchanged IsPlayed self.old clear request.now result self.new }
-        ensures spent { (result ≡ Ok Outcome.Spent)
-            ↔ (slice_index self.old.sends clear ≡ most_sends) }
+        ensures ends { EndsUnaborted (slice_index self.old.sends clear) result }
         ensures sends { (server : ℕ) → slice_index self.new.sends server
             ≡ slice_index self.old.sends server + part_of (is_counted result) clear server }
         ensures probes { (server : ℕ) → slice_index self.new.probes server
             ≡ slice_index self.old.probes server }
         ensures servers { length self.new.sends ≡ length self.old.sends }
-        ensures aborted { ¬ (result ≡ Ok Outcome.Aborted) }
     {
         let server = clear.server();
         if self.sends[server] == u64::MAX {
@@ -296,14 +294,12 @@ impl Links for Scripted {
     fn probe<R: IoRuntime>(&mut self, _rt: &R, duty: Duty) -> Result<Outcome, ExchangeNoMemory>
         requires { duty < length self.old.sends }
         ensures record { WasProbed IsPlayed self.old duty result self.new }
-        ensures spent { (result ≡ Ok Outcome.Spent)
-            ↔ (slice_index self.old.probes duty ≡ most_sends) }
+        ensures ends { EndsUnaborted (slice_index self.old.probes duty) result }
         ensures probes { (server : ℕ) → slice_index self.new.probes server
             ≡ slice_index self.old.probes server + part_of (is_counted result) duty server }
         ensures sends { (server : ℕ) → slice_index self.new.sends server
             ≡ slice_index self.old.sends server }
         ensures servers { length self.new.sends ≡ length self.old.sends }
-        ensures aborted { ¬ (result ≡ Ok Outcome.Aborted) }
     {
         let server = duty.server();
         if self.probes[server] == u64::MAX {

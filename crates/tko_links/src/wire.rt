@@ -1,6 +1,6 @@
 //! The connections to the servers, one each, and their bytes.
 ghost use Rattle.std.specs.Prelude.{◌≡◌, ◌+◌, ◌<◌, ◌≤◌, true, false, IfOk, length};
-ghost use Rattle.tko_links.specs.Wires.{AllSame, OthersSame, Checked, Limited, Shut, connect_item, wire_faults_in, is_ok, read_item, wire_refusals_in, write_item};
+ghost use Rattle.tko_links.specs.Wires.{AllSame, MayConnect, MayRead, MayWrite, OthersSame, Checked, Limited, Shut, connect_item, wire_faults_in, is_ok, read_item, wire_refusals_in, write_item};
 
 use tko_io::IoRuntime;
 
@@ -33,8 +33,7 @@ pub trait Wire {
 
     /// Connects a server.
     fn connect<R: IoRuntime>(&mut self, rt: &R, server: usize) -> Result<(), WireFault>
-        requires within { server < servers self.old }
-        requires shut { is_connected self.old server ≡ false }
+        requires may { MayConnect servers is_connected self.old server }
         ensures record { steps self.old (connect_item server result) self.new }
         ensures connected { is_connected self.new server ≡ is_ok result }
         ensures others { OthersSame server (is_connected self.old) (is_connected self.new) }
@@ -49,8 +48,7 @@ pub trait Wire {
         server: usize,
         bytes: &[u8],
     ) -> Result<usize, WireFault>
-        requires within { server < servers self.old }
-        requires connected { is_connected self.old server ≡ true }
+        requires may { MayWrite servers is_connected self.old server }
         ensures count { IfOk result (λ count. count ≤ length bytes.now) }
         ensures record { steps self.old (write_item server bytes.now result) self.new }
         ensures kept { AllSame (is_connected self.old) (is_connected self.new) }
@@ -65,9 +63,7 @@ pub trait Wire {
         server: usize,
         buffer: &mut [u8],
     ) -> Result<usize, WireFault>
-        requires within { server < servers self.old }
-        requires connected { is_connected self.old server ≡ true }
-        requires room { 0 < length buffer.old }
+        requires may { MayRead servers is_connected self.old server buffer.old }
         ensures count { IfOk result (λ count. count ≤ length buffer.new) }
         ensures record { steps self.old (read_item server buffer.new result) self.new }
         ensures kept { AllSame (is_connected self.old) (is_connected self.new) }

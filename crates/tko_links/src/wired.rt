@@ -1,7 +1,7 @@
 //! Links over a wire.
-ghost use Rattle.std.specs.Prelude.{◌≡◌, ◌<◌, ◌+◌, ◌↔◌, ℕ, true, IfOk, length, replicate, slice_index};
+ghost use Rattle.std.specs.Prelude.{◌≡◌, ◌<◌, ◌+◌, ℕ, true, IfOk, length, replicate, slice_index};
 ghost use Rattle.tko_links.specs.Exchanges.{IsProbing, IsWireExchange};
-ghost use Rattle.tko_links.specs.Links.{HasExchanged, WasProbed, is_counted, most_sends, outcome_in, part_of};
+ghost use Rattle.tko_links.specs.Links.{EndsUnaborted, HasExchanged, WasProbed, is_counted, outcome_in, part_of};
 ghost use Rattle.tko_links.specs.Wired.{IsWired};
 
 use crate::exchanging::{Buffers, exchange_over};
@@ -116,7 +116,8 @@ impl<W: Wire> Wired<W> {
     }
 }
 
-/// The clauses are those of `Links`, and that nothing is aborted; `record` says what an item is.
+/// The clauses are those of `Links`; `ends` is its `spent`, and that nothing is aborted, and `record`
+/// says what an item is.
 impl<W: Wire> Links for Wired<W> {
     ghost servers = { λ links. length links.sends };
 
@@ -136,14 +137,12 @@ impl<W: Wire> Links for Wired<W> {
         requires { clear < length self.old.sends }
         ensures record { HasExchanged (IsWired W.servers W.is_connected W.failures W.steps) self.old
             clear request.now result self.new }
-        ensures spent { (result ≡ Ok Outcome.Spent)
-            ↔ (slice_index self.old.sends clear ≡ most_sends) }
+        ensures ends { EndsUnaborted (slice_index self.old.sends clear) result }
         ensures sends { (server : ℕ) → slice_index self.new.sends server
             ≡ slice_index self.old.sends server + part_of (is_counted result) clear server }
         ensures probes { (server : ℕ) → slice_index self.new.probes server
             ≡ slice_index self.old.probes server }
         ensures servers { length self.new.sends ≡ length self.old.sends }
-        ensures aborted { ¬ (result ≡ Ok Outcome.Aborted) }
     {
         let server = clear.server();
         if self.sends[server] == u64::MAX {
@@ -157,14 +156,12 @@ impl<W: Wire> Links for Wired<W> {
         requires { duty < length self.old.sends }
         ensures record { WasProbed (IsWired W.servers W.is_connected W.failures W.steps) self.old
             duty result self.new }
-        ensures spent { (result ≡ Ok Outcome.Spent)
-            ↔ (slice_index self.old.probes duty ≡ most_sends) }
+        ensures ends { EndsUnaborted (slice_index self.old.probes duty) result }
         ensures probes { (server : ℕ) → slice_index self.new.probes server
             ≡ slice_index self.old.probes server + part_of (is_counted result) duty server }
         ensures sends { (server : ℕ) → slice_index self.new.sends server
             ≡ slice_index self.old.sends server }
         ensures servers { length self.new.sends ≡ length self.old.sends }
-        ensures aborted { ¬ (result ≡ Ok Outcome.Aborted) }
     {
         let server = duty.server();
         if self.probes[server] == u64::MAX {
