@@ -17,7 +17,7 @@ returns-clause-record g c =
       whole = ap (λ (s : TcpState). s.whole) c.self.view_is;
       limit = ap (λ (s : TcpState). s.limit) c.self.view_is;
     })
-    (limit_made _ _ c.args.server _ _ _ _ was c.requires.within c.connect-connected.ensures.limited
+    (limit_made _ _ c.args.server _ _ _ _ was c.requires.may.within c.connect-connected.ensures.limited
     (ap (λ (s : TcpState). s.limit) c.self.view_is))
     (set_seen is_open _ _ c.args.server _ _ was c.connect-connected.ensures.connected)
     (rose _ _ _ _ c.counted.ensures.failures (ap (λ (s : TcpState). s.failures) c.self.view_is)))
@@ -26,7 +26,7 @@ pub returns-clause-connected : goal.returns-clause-connected
 returns-clause-connected g c =
     at_set _ _ _ _
     (set_seen is_open _ _ c.args.server _ _ (ap (λ (s : TcpState). s.connected) c.self.view_is)
-    c.connect-connected.ensures.connected) c.requires.within
+    c.connect-connected.ensures.connected) c.requires.may.within
     ∙ ap is_ok (sym c.counted.ensures.same)
 
 pub returns-clause-others : goal.returns-clause-others
