@@ -1,6 +1,6 @@
 -- A probe in two halves: what a round finds due at a server, and the result, which may come at any
 -- later time.
-use Rattle.std.specs.Prelude.{◌≡◌, ℕ, ◌⊎◌, Option, Some, None}
+use Rattle.std.specs.Prelude.{◌≡◌, ℕ, ◌<◌, ◌⊎◌, Option, Some, None}
 use Rattle.tko_model.specs.declared.mark.Reply.{Reply}
 use Rattle.tko_model.specs.Records.{HealthItem, NoDuty}
 use Rattle.tko_prober.specs.declared.prober.Probed.{Probed}
@@ -11,6 +11,13 @@ use Rattle.tko_route.specs.Trail.{IsRecorded}
 use Rattle.tko_prober.specs.declared.backend.Backend.{Backend}
 use Rattle.tko_prober.specs.declared.probers.ProbeSlot.TheVariants.{Probing, Quiet}
 use Rattle.tko_prober.specs.Probers.{ProbersState, op_asked, prober_of, slot_after, with_slot}
+
+-- a probe may be sent to this server: the health granted the right to it, and the links have the
+-- server
+pub record MayProbe {H L : Type 0} (grants : H → ℕ → Type 0) (linked : L → ℕ) (health : H)
+    (links : L) (server : ℕ) : Type 0 where
+  pub right : grants health server
+  pub within : server < linked links
 
 -- a probe of this server is out, sent by this prober
 pub record IsOut (probers : ProbersState) (server : ℕ) (prober : Prober) : Type 0 where

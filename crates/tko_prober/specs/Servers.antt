@@ -7,3 +7,8 @@ pub record HaveServers {H L C : Type 0} (servers : H → ℕ) (linked : L → �
     (backend : Backend H L C) : Type 0 where
   pub links : linked backend.links ≡ servers backend.health
   pub probers : length backend.probers.slots ≡ servers backend.health
+
+-- the servers stay: the probers have as many as before, and so has the health
+pub record ServersStay {H L C : Type 0} (count : H → ℕ) (old new : Backend H L C) : Type 0 where
+  pub slots : length new.probers.slots ≡ length old.probers.slots
+  pub servers : count new.health ≡ count old.health

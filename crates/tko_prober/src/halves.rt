@@ -6,6 +6,7 @@ ghost use Rattle.tko_prober.specs.Probes.{asked_after};
 ghost use Rattle.tko_route.specs.Trail.{IsRecorded};
 ghost use Rattle.tko_prober.specs.Halves.{IsOut, IsPassed, IsProbeSent, IsResult};
 ghost use Rattle.tko_prober.specs.Probers.{op_asked, slot_after};
+ghost use Rattle.tko_prober.specs.Servers.{ServersStay};
 
 use crate::probers::ProbeSlot;
 use crate::{AfterProbe, Backend, ProbeTurn, Probed, Prober, ProberStage};
@@ -25,8 +26,7 @@ impl<H: Health, L, C> Backend<H, L, C> {
         ensures passed { IfNone result
             (IsPassed H.steps H.grants moment self.old server self.new) }
         ensures others { (self.new.links ≡ self.old.links) × (self.new.clock ≡ self.old.clock) }
-        ensures slots { length self.new.probers.slots ≡ length self.old.probers.slots }
-        ensures servers { H.servers self.new.health ≡ H.servers self.old.health }
+        ensures stay { ServersStay H.servers self.old self.new }
     {
         let Some(mut prober) = self.probers.take(server) else {
             return None;

@@ -3,9 +3,10 @@
 ghost use Rattle.std.specs.Prelude.{◌≡◌, ◌+◌, ◌<◌, ◌↔◌, ℕ, false, IfNone, IfSome, Ok, length};
 ghost use Rattle.tko_links.specs.Links.{WasProbed, is_counted, most_sends, part_of};
 ghost use Rattle.tko_prober.specs.Ghosts.{backend_ghosts};
+ghost use Rattle.tko_prober.specs.Halves.{MayProbe};
 ghost use Rattle.tko_prober.specs.Probers.{probed_of};
 ghost use Rattle.tko_prober.specs.Round.{IsBegun, IsRound, IsVisitedBy};
-ghost use Rattle.tko_prober.specs.Servers.{HaveServers};
+ghost use Rattle.tko_prober.specs.Servers.{HaveServers, ServersStay};
 
 use crate::{Backend, Probed};
 use tko_io::{Clock, IoRuntime};
@@ -53,9 +54,8 @@ impl<H: Health, L: Links, C: Clock> Backend<H, L, C> {
         ensures visit { IsVisitedBy (backend_ghosts H.Health L.Links C.Clock) moment
             self.old server result self.new }
         ensures sends { (at : ℕ) → L.sent self.new.links at ≡ L.sent self.old.links at }
-        ensures slots { length self.new.probers.slots ≡ length self.old.probers.slots }
         ensures servers { HaveServers H.servers L.servers self.new }
-        ensures same { H.servers self.new.health ≡ H.servers self.old.health }
+        ensures stay { ServersStay H.servers self.old self.new }
     {
         let Some(duty) = self.due(rt, server, moment) else {
             return None;
@@ -80,8 +80,7 @@ fn send_probe<R: IoRuntime, H: Health, L: Links>(
     links: &mut L,
     duty: Duty,
 ) -> Result<Outcome, ExchangeNoMemory>
-    requires right { H.grants _health.now duty }
-    requires within { duty < L.servers links.old }
+    requires may { MayProbe H.grants L.servers _health.now links.old duty }
     ensures record { WasProbed L.exchanges links.old duty result links.new }
     ensures spent { (result ≡ Ok Outcome.Spent) ↔ (L.probed links.old duty ≡ most_sends) }
     ensures probes { (server : ℕ) → L.probed links.new server
