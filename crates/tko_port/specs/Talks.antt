@@ -1,9 +1,10 @@
 -- A client's session as its port sees it.
-use Rattle.std.specs.Prelude.{◌≡◌, ◌≢◌, ℕ, ◌+◌, List, [], ◌++◌, Option, None, IfSome, IsSome, Result, Ok, Err, length}
+use Rattle.std.specs.Prelude.{◌≡◌, ◌≢◌, ℕ, ◌+◌, List, [], ◌++◌, Option, None, IfSome, IsSome}
+use Rattle.std.specs.Prelude.{Result, Ok, Err, drop, length}
 use Rattle.tko_bytes.specs.Numbers.{capped}
 use Rattle.tko_text.specs.declared.request.Request.{Request}
 use Rattle.tko_mux.specs.declared.asking.Came.{Came}
-use Rattle.tko_mux.specs.Awaits.{IsAsking}
+use Rattle.tko_mux.specs.Awaits.{IsAsking, IsTaking}
 use Rattle.tko_port.specs.declared.talking.SessionStage.{SessionStage}
 use Rattle.tko_port.specs.declared.talking.SessionStage.TheVariants.{Full, Going, NeedsInput, Over, TooLong, Waits}
 use Rattle.tko_port.specs.declared.talking.Tally.{Tally}
@@ -85,6 +86,36 @@ abbrev pub GoesOnAs : {E : Type 0} → Result (Option ℕ) E → List ℕ → Ta
 GoesOnAs (Ok asked) was talk awaited asks_for = HasGoneOn asked was talk awaited asks_for
 GoesOnAs (Err fault) was talk awaited asks_for = IsAsking None was awaited
 
+-- a session went on, which came to this: it asks and awaits as that says; no byte of its replies
+-- counts as written by that; and it has replies where they are to be written first
+pub record GoesOnWithReplies {E : Type 0} (result : Result (Option ℕ) E) (was : List ℕ)
+    (old new : Talk) (awaited : List ℕ) (asks_for : Option Request) : Type 0 where
+  pub asks : GoesOnAs result was new awaited asks_for
+  pub taken : new.taken ≡ old.taken
+  pub replies : HasReplies new.stage new.output
+
+-- so many bytes at the front of a session's replies were written: they are dropped and counted, and
+-- no request of it is under way
+pub record SendsReplies (count : ℕ) (old new : Talk) (awaited : List ℕ) : Type 0 where
+  pub output : new.output ≡ drop count old.output
+  pub taken : new.taken ≡ taken_more old.taken count
+  pub here : awaited ≡ []
+
+-- no request of a session is under way after a call, and no byte of its replies counts as written
+-- by that
+pub record StaysIdle (old new : Talk) (awaited : List ℕ) : Type 0 where
+  pub taken : new.taken ≡ old.taken
+  pub here : awaited ≡ []
+
+-- a session took what came of a request to this server: it awaits that once less, and the server
+-- that it asks then once more, for which it has the request that is to be sent; and no byte of its
+-- replies counts as written by that
+pub record TakesWhatCame (server : ℕ) (came : Came) (asked : Option ℕ) (was : List ℕ)
+    (old new : Talk) (awaited : List ℕ) (asks_for : Option Request) : Type 0 where
+  pub asks : IsTaking server came asked was awaited
+  pub request : IfSome asked (λ it. IsSome asks_for)
+  pub taken : new.taken ≡ old.taken
+
 -- how a session is between two calls: whom it awaits at its stage, and that it has replies where
 -- they are to be written first
 pub record IsAtStage (talk : Talk) (awaited : List ℕ) : Type 0 where
@@ -101,6 +132,12 @@ pub record IsCallable {P T : Type 0} (ready : Readiness P T) (it : T × P) : Typ
   pub went : List ℕ
   pub is : ready it.1 came went it.0
 
+-- the same of one that awaits no server: none of its requests is under way
+pub record IsCallableIdle {P T : Type 0} (is_ready : Readiness P T) (it : T × P)
+    (awaited : List ℕ) : Type 0 where
+  pub ready : IsCallable is_ready it
+  pub here : awaited ≡ []
+
 -- a call after which a session is ready: no bytes came to it or went from it
 abbrev pub StaysReady : {P T : Type 0} → Readiness P T → T × P → T × P → Type 0
 StaysReady ready old new =
@@ -115,3 +152,9 @@ GainsBytes ready bytes old new =
 abbrev pub SendsBytes : {P T : Type 0} → Readiness P T → List ℕ → T × P → T × P → Type 0
 SendsBytes ready bytes old new =
     (came went : List ℕ) → ready old.1 came went old.0 → ready new.1 came (went ++ bytes) new.0
+
+-- the same once it was to be fed these bytes: they came; or it was not fed, and none came
+abbrev pub GainsAs : {P T A E : Type 0} → Readiness P T → List ℕ → Result A E → T × P → T × P
+    → Type 0
+GainsAs ready bytes (Ok done) old new = GainsBytes ready bytes old new
+GainsAs ready bytes (Err fault) old new = StaysReady ready old new

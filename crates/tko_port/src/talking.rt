@@ -39,12 +39,16 @@ pub struct Tally {
 /// requests may be under way, also to one server: what comes from a server is of the first of those
 /// that are under way to it, in the order in which they were asked for.
 pub trait Talking<P> {
-    ghost use Rattle.std.specs.Prelude.{◌≡◌, ◌≢◌, ◌<◌, ◌≤◌, ◌++◌, ℕ, List, [], Option, Some, IfSome, IsSome, OnErr, OnOk, drop, length, take};
+    ghost use Rattle.std.specs.Prelude.{◌≡◌, ◌≢◌, ◌<◌, ◌≤◌, ◌++◌, ℕ, List, [], Option, Some};
+    ghost use Rattle.std.specs.Prelude.{IsSome, length, take};
     ghost use Rattle.std.specs.Bool.{OnFalse, OnTrue};
     ghost use Rattle.tko_port.specs.declared.talking.SessionStage.TheVariants.{NeedsInput};
-    ghost use Rattle.tko_port.specs.Talks.{Ended, GainsBytes, GoesOnAs, HasReplies, IsCallable, SendsBytes, Sent, StaysReady, Talk, TalkItem, Took, fed_as, taken_more, tally_of, went_as};
+    ghost use Rattle.tko_port.specs.Talks.{Ended, GainsAs, GoesOnWithReplies, IsCallable};
+    ghost use Rattle.tko_port.specs.Talks.{IsCallableIdle, SendsBytes, SendsReplies, Sent};
+    ghost use Rattle.tko_port.specs.Talks.{StaysIdle, StaysReady, TakesWhatCame, Talk, TalkItem};
+    ghost use Rattle.tko_port.specs.Talks.{Took, fed_as, tally_of, went_as};
     ghost use Rattle.tko_text.specs.declared.request.Request.{Request};
-    ghost use Rattle.tko_mux.specs.Awaits.{IsTaking, times_due};
+    ghost use Rattle.tko_mux.specs.Awaits.{times_due};
 
     ghost talk: { Self → Talk };
 
@@ -72,10 +76,8 @@ pub trait Talking<P> {
     fn go_on(&mut self, parts: &mut P) -> Result<Option<Clear>, NoMemory>
         requires ready { IsCallable ready (self.old, parts.old) }
         ensures does { does (self.old, parts.old) (went_as result) (self.new, parts.new) }
-        ensures asks { GoesOnAs result (awaited self.old) (talk self.new) (awaited self.new)
-            (asks_for self.new) }
-        ensures taken { (talk self.new).taken ≡ (talk self.old).taken }
-        ensures replies { HasReplies (talk self.new).stage (talk self.new).output }
+        ensures goes { GoesOnWithReplies result (awaited self.old) (talk self.old) (talk self.new)
+            (awaited self.new) (asks_for self.new) }
         ensures ready { StaysReady ready (self.old, parts.old) (self.new, parts.new) }
         ensures stays { stays parts.old parts.new };
 
@@ -94,40 +96,31 @@ pub trait Talking<P> {
 
     /// Drops the first `count` bytes of the replies, which were written.
     fn sent(&mut self, parts: &mut P, count: usize)
-        requires ready { IsCallable ready (self.old, parts.old) }
-        requires here { awaited self.old ≡ [] }
+        requires idle { IsCallableIdle ready (self.old, parts.old) (awaited self.old) }
         requires within { count ≤ length (talk self.old).output }
         ensures does { does (self.old, parts.old) (Sent count) (self.new, parts.new) }
-        ensures output { (talk self.new).output ≡ drop count (talk self.old).output }
-        ensures taken { (talk self.new).taken ≡ taken_more (talk self.old).taken count }
-        ensures here { awaited self.new ≡ [] }
+        ensures sends { SendsReplies count (talk self.old) (talk self.new) (awaited self.new) }
         ensures ready { SendsBytes ready (take count (talk self.old).output)
             (self.old, parts.old) (self.new, parts.new) }
         ensures stays { stays parts.old parts.new };
 
     /// Takes the next piece of the client's bytes.
     fn feed(&mut self, parts: &mut P, piece: &[u8]) -> Result<(), NoMemory>
-        requires ready { IsCallable ready (self.old, parts.old) }
-        requires here { awaited self.old ≡ [] }
+        requires idle { IsCallableIdle ready (self.old, parts.old) (awaited self.old) }
         requires needs { (talk self.old).stage ≡ NeedsInput }
         ensures does { does (self.old, parts.old) (fed_as piece.now result)
             (self.new, parts.new) }
-        ensures taken { (talk self.new).taken ≡ (talk self.old).taken }
-        ensures here { awaited self.new ≡ [] }
-        ensures fed { OnOk result (GainsBytes ready piece.now (self.old, parts.old)
-            (self.new, parts.new)) }
-        ensures kept { OnErr result (StaysReady ready (self.old, parts.old)
-            (self.new, parts.new)) }
+        ensures idle { StaysIdle (talk self.old) (talk self.new) (awaited self.new) }
+        ensures ready { GainsAs ready piece.now result (self.old, parts.old)
+            (self.new, parts.new) }
         ensures stays { stays parts.old parts.new };
 
     /// The client's bytes end here.
     fn end(&mut self, parts: &mut P)
-        requires ready { IsCallable ready (self.old, parts.old) }
-        requires here { awaited self.old ≡ [] }
+        requires idle { IsCallableIdle ready (self.old, parts.old) (awaited self.old) }
         requires needs { (talk self.old).stage ≡ NeedsInput }
         ensures does { does (self.old, parts.old) Ended (self.new, parts.new) }
-        ensures taken { (talk self.new).taken ≡ (talk self.old).taken }
-        ensures here { awaited self.new ≡ [] }
+        ensures idle { StaysIdle (talk self.old) (talk self.new) (awaited self.new) }
         ensures ready { StaysReady ready (self.old, parts.old) (self.new, parts.new) }
         ensures stays { stays parts.old parts.new };
 
@@ -138,9 +131,8 @@ pub trait Talking<P> {
         requires awaits { 0 < times_due (awaited self.old) server }
         ensures does { does (self.old, parts.old) (Took server came result)
             (self.new, parts.new) }
-        ensures asks { IsTaking server came result (awaited self.old) (awaited self.new) }
-        ensures request { IfSome result (λ it. IsSome (asks_for self.new)) }
-        ensures taken { (talk self.new).taken ≡ (talk self.old).taken }
+        ensures takes { TakesWhatCame server came result (awaited self.old) (talk self.old)
+            (talk self.new) (awaited self.new) (asks_for self.new) }
         ensures ready { StaysReady ready (self.old, parts.old) (self.new, parts.new) }
         ensures stays { stays parts.old parts.new };
 
