@@ -23,6 +23,12 @@ abbrev pub upstream : {H L : Type 0} → HealthGhosts H → LinksGhosts L → Up
 upstream health links =
     record { steps = health.steps; exchanges = links.exchanges; sent = links.sent }
 
+-- health and links have as many servers as before
+pub record HaveSameServers {H L : Type 0} (servers : H → ℕ) (linked : L → ℕ) (old new : H × L)
+    : Type 0 where
+  pub health_servers : servers new.0 ≡ servers old.0
+  pub links_servers : linked new.1 ≡ linked old.1
+
 -- the exchange of a request with a server, and what came of it
 pub record Exchange : Type 0 where
   pub server : ℕ

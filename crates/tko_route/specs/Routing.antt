@@ -2,11 +2,13 @@
 -- attempt at a server that is up has two halves: its look-up, and what came of the send with the
 -- call that records it. The other calls of the servers' health may stand between the halves, so
 -- each half is told over whatever calls of the request stood before.
-use Rattle.std.specs.Prelude.{◌≡◌, ℕ, ◌≤◌, ◌-◌, ◌⊎◌, List, [], ◌∷◌, ◌++◌, length, map, take, Ok, Option}
+use Rattle.std.specs.Prelude.{◌≡◌, ◌↔◌, ℕ, ◌<◌, ◌≤◌, ◌-◌, ◌⊎◌, List, [], ◌∷◌, ◌++◌}
+use Rattle.std.specs.Prelude.{IsSome, Ok, Option, length, map, take}
 use Rattle.tko_model.specs.declared.mark.Reply.{Reply}
 use Rattle.tko_model.specs.declared.mark.Reply.TheVariants as reply
 use Rattle.tko_model.specs.Records.{Gains, HealthItem}
 use Rattle.tko_text.specs.declared.request.Request.{Request}
+use Rattle.tko_text.specs.SentRequests.{without_noreply}
 use Rattle.tko_links.specs.declared.links.Outcome.{Outcome}
 use Rattle.tko_route.specs.Calls.{RoutedCall, Told, came, look_up}
 use Rattle.tko_route.specs.declared.attempt.Attempt.{Attempt}
@@ -26,10 +28,29 @@ pub record IsAwaited (targets : List ℕ) (awaited : Awaited) : Type 0 where
   pub room : length targets ≤ awaited.room
   pub server : awaited.server ≡ next_target targets awaited.attempts
 
+-- the request was sent so, and what came of it was recorded, with a reply exactly if the table of
+-- outcomes names a call
+pub record IsAwaitedAndRecorded (targets : List ℕ) (it : Awaited) (outcome : Outcome)
+    (reply : Option Reply) : Type 0 where
+  pub awaited : IsAwaited targets it
+  pub replied : IsSome reply ↔ IsSome (op_of outcome)
+
 -- attempts at targets in order, of which none was answered
 pub record IsTried (targets : List ℕ) (trail : List Attempt) : Type 0 where
   pub servers : map server_of trail ≡ take (length trail) targets
   pub unanswered : NoneAnswered trail
+
+-- none of these attempts at targets in order was answered, and there is room for one at each target
+pub record MayTryOn (targets : List ℕ) (trail : List Attempt) (capacity : ℕ) : Type 0 where
+  pub room : length targets ≤ capacity
+  pub tried : IsTried targets trail
+
+-- memory ran out before a routing began: there are targets, health was asked nothing, and the
+-- request has lost its `noreply`
+pub record IsUnbegun {H : Type 0} (targets : List ℕ) (old new : H × Request) : Type 0 where
+  pub err : 0 < length targets
+  pub err_health : new.0 ≡ old.0
+  pub err_request : new.1 ≡ without_noreply old.1
 
 -- these calls made a trail, and then found this server up
 pub record FindsUp (form : ℕ → Request) (calls : List RoutedCall) (trail : List Attempt)

@@ -1,7 +1,7 @@
 //! Failover: a request is sent to one target after another until one answers.
-ghost use Rattle.std.specs.Prelude.{◌≡◌, ◌-◌, ◌<◌, ℕ, All, IfErr, IfOk, length};
-ghost use Rattle.tko_route.specs.Calls.{upstream};
-ghost use Rattle.tko_route.specs.Trail.{IsCut, IsRouted, form_at};
+ghost use Rattle.std.specs.Prelude.{◌≡◌, ◌<◌, ℕ, All, IfErr, IfOk};
+ghost use Rattle.tko_route.specs.Calls.{HaveSameServers, upstream};
+ghost use Rattle.tko_route.specs.Trail.{HasCutShort, HasRouted, form_at};
 ghost use Rattle.tko_text.specs.SentRequests.{without_noreply};
 
 use crate::routed::{RouteFault, Routed};
@@ -28,19 +28,15 @@ pub fn route<R: IoRuntime, H: Health, L: Links>(
 ) -> Result<Routed, RouteFault>
     requires health { All (λ target. target < H.servers health.old) targets.now }
     requires links { All (λ target. target < L.servers links.old) targets.now }
-    ensures ok { IfOk result (λ routed. IsRouted (upstream H.Health L.Links)
+    ensures ok { IfOk result (λ routed. HasRouted (upstream H.Health L.Links)
         targets.now (form_at exptime (without_noreply request.old))
-        (health.old, links.old) routed.trail (health.new, links.new)) }
-    ensures err { IfErr result (λ fault. IsCut (upstream H.Health L.Links)
+        (health.old, links.old) routed.trail (health.new, links.new) request.new) }
+    ensures err { IfErr result (λ fault. HasCutShort (upstream H.Health L.Links)
         targets.now (form_at exptime (without_noreply request.old))
-        (health.old, links.old) fault.trail fault.sent (health.new, links.new)) }
-    ensures ok_request { IfOk result (λ routed. request.new
-        ≡ form_at exptime (without_noreply request.old) (length routed.trail - 1)) }
-    ensures err_request { IfErr result (λ fault. request.new
-        ≡ form_at exptime (without_noreply request.old) (length fault.trail)) }
+        (health.old, links.old) fault.trail fault.sent (health.new, links.new) request.new) }
     ensures probes { (server : ℕ) → L.probed links.new server ≡ L.probed links.old server }
-    ensures health_servers { H.servers health.new ≡ H.servers health.old }
-    ensures links_servers { L.servers links.new ≡ L.servers links.old }
+    ensures servers { HaveSameServers H.servers L.servers (health.old, links.old)
+        (health.new, links.new) }
 {
     let Ok(mut stage) = Stage::begin(rt, alloc, health, targets, request, exptime) else {
         return Err(RouteFault::untried(alloc));

@@ -6,7 +6,8 @@
 //!   goes on where a call that other requests share recorded it.
 ghost use Rattle.std.specs.Prelude.{◌≡◌, ◌+◌, ◌-◌, ◌<◌, ◌≤◌, ◌∷◌, ◌++◌, ℕ, All, IfOk, List, OnErr, length, vec_capacity};
 ghost use Rattle.tko_route.specs.Calls.{RoutedCall};
-ghost use Rattle.tko_route.specs.Routing.{FindsUp, GoesOn, IsAwaited, IsBrought, IsTried, Reached, came_of, last_place, tries};
+ghost use Rattle.tko_route.specs.Routing.{FindsUp, GoesOn, IsAwaited, IsBrought, IsUnbegun};
+ghost use Rattle.tko_route.specs.Routing.{MayTryOn, Reached, came_of, last_place, tries};
 ghost use Rattle.tko_route.specs.Trail.{MakesTrail, form_at};
 ghost use Rattle.tko_text.specs.SentRequests.{without_noreply};
 ghost use Rattle.tko_text.specs.declared.request.Request.{Request};
@@ -71,9 +72,8 @@ impl Stage {
             (λ calls. (form : ℕ → Request) → Reached targets.now form calls stage) health.new) }
         ensures ok_request { IfOk result (λ stage.
             request.new ≡ form_at exptime (without_noreply request.old) (last_place stage)) }
-        ensures err { OnErr result (0 < length targets.now) }
-        ensures err_health { OnErr result (health.new ≡ health.old) }
-        ensures err_request { OnErr result (request.new ≡ without_noreply request.old) }
+        ensures err { OnErr result (IsUnbegun targets.now (health.old, request.old)
+            (health.new, request.new)) }
         ensures servers { H.servers health.new ≡ H.servers health.old }
     {
         request.drop_noreply();
@@ -156,8 +156,7 @@ fn look_on<R: Wait, H: Health>(
     mut attempts: Vec<Attempt>,
 ) -> Stage
     requires health { All (λ target. target < H.servers health.old) targets.now }
-    requires room { length targets.now ≤ vec_capacity attempts }
-    requires tried { IsTried targets.now attempts.items }
+    requires attempts { MayTryOn targets.now attempts.items (vec_capacity attempts) }
     ensures calls { GoesOn H.steps health.old
         (λ more. (form : ℕ → Request) (calls : List RoutedCall)
         → MakesTrail form calls attempts.items

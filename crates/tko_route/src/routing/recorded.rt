@@ -1,7 +1,9 @@
 //! A send that is out ends where what came of it was recorded.
 ghost use Rattle.std.specs.Prelude.{◌≡◌, ◌↔◌, ◌+◌, ◌<◌, ◌≤◌, ◌∷◌, ◌++◌, ℕ, All, IsSome, List, length, vec_capacity};
 ghost use Rattle.tko_route.specs.Calls.{RoutedCall};
-ghost use Rattle.tko_route.specs.Routing.{FindsUp, GoesOn, IsAwaited, IsBrought, IsConcluded, Reached, came_of, last_place, told_of, tries};
+ghost use Rattle.tko_route.specs.Routing.{FindsUp, GoesOn, IsAwaited, IsAwaitedAndRecorded};
+ghost use Rattle.tko_route.specs.Routing.{IsBrought, IsConcluded, Reached, came_of, last_place};
+ghost use Rattle.tko_route.specs.Routing.{told_of, tries};
 ghost use Rattle.tko_route.specs.Trail.{MakesTrail, op_of};
 ghost use Rattle.tko_text.specs.declared.request.Request.{Request};
 
@@ -46,8 +48,7 @@ impl AwaitedSend {
         reply: Option<Reply>,
     ) -> Stage
         requires health { All (λ target. target < H.servers health.old) targets.now }
-        requires awaited { IsAwaited targets.now self }
-        requires replied { IsSome reply ↔ IsSome (op_of outcome) }
+        requires sent { IsAwaitedAndRecorded targets.now self outcome reply }
         ensures calls { GoesOn H.steps health.old (λ more.
             (form : ℕ → Request) (calls : List RoutedCall)
             → FindsUp form calls self.attempts self.server

@@ -4,10 +4,13 @@ use Rattle.tko_route.specs.Underway.{Awaited}
 use Rattle.tko_route.proofs.RecordedLemmas.{is_replied, record_then}
 use Rattle.tko_route.proofs.routing.AwaitedSend.answered.Goals as goal
 
-pub recorded-requires-clause-replied : goal.recorded-requires-clause-replied
-recorded-requires-clause-replied g c =
-    is_replied g.H.Health.steps c.args.health.now c.self.inside.server (op_of c.args.outcome) c.record_outcome-reply.result c.record_outcome-reply.new.health
-    c.record_outcome-reply.ensures.recorded
+pub recorded-requires-clause-sent : goal.recorded-requires-clause-sent
+recorded-requires-clause-sent g c = record {
+  awaited = c.requires.awaited;
+  replied =
+      is_replied g.H.Health.steps c.args.health.now c.self.inside.server (op_of c.args.outcome) c.record_outcome-reply.result c.record_outcome-reply.new.health
+      c.record_outcome-reply.ensures.recorded;
+}
 
 pub returns-clause-calls : goal.returns-clause-calls
 returns-clause-calls g c =
