@@ -1,6 +1,7 @@
 -- Laws of the calls of an answer: what a routing gives them.
 use Rattle.std.proofs.Common.{◌≡◌, ℕ, Bool, List, [], ◌∷◌, ◌++◌, length, map, Option, Ok, refl, sym}
-use Rattle.std.proofs.Common.{ap, subst, ◌∙◌}
+use Rattle.std.proofs.Common.{ap, subst, ◌∙◌, Err, Result}
+use Rattle.std.specs.Prelude.{IfErr, OnErr}
 use Rattle.tko_model.specs.Records.{HealthItem}
 use Rattle.tko_text.specs.SentRequests.{without_noreply}
 use Rattle.tko_text.specs.declared.request.Request.{Request}
@@ -16,7 +17,7 @@ use Rattle.tko_route.specs.declared.routing.Stage.TheVariants as stage
 use Rattle.tko_reply.specs.Answering.{Extends}
 use Rattle.tko_reply.specs.Asking.{ContinuesKeys, Goes, GoesTo, Replies, Settles, course_of}
 use Rattle.tko_reply.specs.Asking.{front_of}
-use Rattle.tko_reply.specs.Cuts.{EndsBy, IsEndOf, KeyLost, tried, untried}
+use Rattle.tko_reply.specs.Cuts.{EndsBy, IsEndOf, IsKeyDropped, KeyLost, tried, untried}
 use Rattle.tko_reply.specs.Sends.{AfterSend}
 use Rattle.tko_reply.specs.Standing.{SentKey}
 use Rattle.tko_reply.specs.declared.asking.OneKey.{OneKey}
@@ -166,6 +167,17 @@ module _ {H : Type 0} {steps : H → HealthItem → H → Type 0} {old new : H} 
         (sym same)
         (on.is (form_at config.failover_exptime original) calls up)) is;
   }
+
+module _ {H : Type 0} {steps : H → HealthItem → H → Type 0} {old new : H} where
+  -- a key was dropped where its response had no room
+  pub key_dropped : {T : Type 0} {P : List Attempt → Type 0}
+      {Q : List Attempt → List RoutedCall → Type 0} (share : ReplyPart) (outbox outbox' : List ℕ)
+      (r : Result T (List Attempt)) → OnErr r (Extends (front_of share outbox) outbox')
+      → IfErr r P → ((trail : List Attempt) → P trail → GoesOn steps old (Q trail) new)
+      → IfErr r (λ trail. IsKeyDropped steps share (old, outbox) (Q trail) (new, outbox'))
+  key_dropped share outbox outbox' (Ok x) extends ended on = tt
+  key_dropped share outbox outbox' (Err trail) extends ended on =
+      record { kept = extends; lost = on trail ended }
 
 module _ {H : Type 0} {steps : H → HealthItem → H → Type 0} {config : Configuration}
     {request : Request} where

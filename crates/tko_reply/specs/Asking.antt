@@ -2,11 +2,11 @@
 -- send is passed to it, and other calls of the servers' health may stand between two calls of the
 -- value. So each clause speaks of the calls of its key alone.
 use Rattle.std.specs.Prelude.{◌≡◌, ◌≤◌, ℕ, Bool, true, false, List, [], ◌∷◌, ◌++◌, IsSome, Option}
-use Rattle.std.specs.Prelude.{length, map, take, unwrap_or, if◌then◌else◌}
+use Rattle.std.specs.Prelude.{OnOk, Result, length, map, take, unwrap_or, if◌then◌else◌}
 use Rattle.tko_model.specs.Records.{HealthItem}
 use Rattle.tko_text.specs.declared.request.Request.{Request}
 use Rattle.tko_text.specs.declared.response.Response.{Response}
-use Rattle.tko_pools.specs.Configs.{Configuration, targets_of}
+use Rattle.tko_pools.specs.Configs.{AreServers, Configuration, targets_of}
 use Rattle.tko_route.specs.Calls.{RoutedCall, Told}
 use Rattle.tko_route.specs.Routing.{Reached, last_place}
 use Rattle.tko_route.specs.Trail.{answer_of, form_at}
@@ -24,6 +24,13 @@ use Rattle.tko_reply.specs.declared.asking.ReplyPart.TheVariants as share
 abbrev pub GoesTo : Configuration → Request → List ℕ → Type 0
 GoesTo config request targets =
     (key : List ℕ) → request_keys request ≡ key ∷ [] → targets ≡ targets_of config key
+
+-- the targets of a key were looked for: where it was begun they are its targets, and in any case
+-- they are servers
+pub record FindsTargets {T E : Type 0} (config : Configuration) (request : Request)
+    (result : Result T E) (found : List ℕ) : Type 0 where
+  pub targets : OnOk result (GoesTo config request found)
+  pub within : AreServers config found
 
 -- the replies that stay, whatever becomes of a key: all of them, or where several keys are asked
 -- for those from before the first

@@ -5,15 +5,18 @@ use Rattle.tko_text.specs.declared.request.Request.{Request}
 use Rattle.tko_text.specs.declared.request.Request.TheVariants.{StatsTko}
 use Rattle.tko_pools.specs.Configs.{Configuration, targets_of}
 use Rattle.tko_route.specs.Calls.{RoutedCall, Told, came}
-use Rattle.tko_route.specs.Routing.{FindsUp}
+use Rattle.tko_route.specs.Routing.{FindsUp, GoesOn}
 use Rattle.tko_route.specs.Trail.{IsCutTrail, IsTrail, MakesTrail, next_target}
 use Rattle.tko_route.specs.declared.attempt.Attempt.{Attempt}
 use Rattle.tko_route.specs.declared.routing.Stage.{Stage}
 use Rattle.tko_route.specs.declared.routing.Stage.TheVariants as stage
+use Rattle.tko_reply.specs.Answering.{Extends}
 use Rattle.tko_reply.specs.Answers.{AreKeysRouted, form_in, request_for, request_keys}
+use Rattle.tko_reply.specs.Asking.{front_of}
 use Rattle.tko_reply.specs.Interactions.{Interaction, Made, Noted, health_calls}
 use Rattle.tko_reply.specs.Replies.{HasValues, RoutedKey, keys_in}
 use Rattle.tko_reply.specs.Status.{LookedServer, addresses_in, looks_from}
+use Rattle.tko_reply.specs.declared.asking.ReplyPart.{ReplyPart}
 
 -- the first servers were looked up once each, in number order, and no other
 pub record LooksSome {H : Type 0} (steps : H → HealthItem → H → Type 0)
@@ -51,6 +54,13 @@ pub data KeyLost (config : Configuration) (request : Request) (calls : List Rout
   tried : ((key : List ℕ) → request_keys request ≡ key ∷ []
       → EndsBy (targets_of config key) (form_in config request) calls trail)
       → KeyLost config request calls trail
+
+-- memory ran out for a key, which is dropped: the outbox still begins with the replies that stay,
+-- health was asked or told more, and with that this is reached
+pub record IsKeyDropped {H : Type 0} (steps : H → HealthItem → H → Type 0) (share : ReplyPart)
+    (old : H × List ℕ) (reached : List RoutedCall → Type 0) (new : H × List ℕ) : Type 0 where
+  pub kept : Extends (front_of share old.1) new.1
+  pub lost : GoesOn steps old.0 reached new.0
 
 -- memory ran out at this key of a request: after its attempts, so that nothing but their marks was
 -- noted; or at the send to the next target, after attempts at the first ones, none of them answered

@@ -1,11 +1,12 @@
 -- A send that is out for a key.
-use Rattle.std.specs.Prelude.{◌≡◌, ℕ, List, ◌∷◌, ◌++◌, length, Ok}
+use Rattle.std.specs.Prelude.{◌≡◌, ◌↔◌, ℕ, List, ◌∷◌, ◌++◌, IsSome, Ok, Option, length}
+use Rattle.tko_model.specs.declared.mark.Reply.{Reply}
 use Rattle.tko_text.specs.declared.request.Request.{Request}
 use Rattle.tko_pools.specs.Configs.{AreServers, Configuration}
 use Rattle.tko_links.specs.declared.links.Outcome.{Outcome}
 use Rattle.tko_route.specs.Calls.{RoutedCall, came}
 use Rattle.tko_route.specs.Routing.{FindsUp, IsAwaited}
-use Rattle.tko_route.specs.Trail.{form_at}
+use Rattle.tko_route.specs.Trail.{form_at, op_of}
 use Rattle.tko_route.specs.Underway.{Awaited}
 use Rattle.tko_reply.specs.Standing.{SentKey}
 
@@ -13,6 +14,13 @@ use Rattle.tko_reply.specs.Standing.{SentKey}
 pub record IsOutTo (config : Configuration) (targets : List ℕ) (awaited : Awaited) : Type 0 where
   pub within : AreServers config targets
   pub awaits : IsAwaited targets awaited
+
+-- a send is out so, and what came of it was recorded, with a reply exactly if the table of outcomes
+-- names a call
+pub record IsOutAndRecorded (config : Configuration) (targets : List ℕ) (awaited : Awaited)
+    (outcome : Outcome) (reply : Option Reply) : Type 0 where
+  pub out : IsOutTo config targets awaited
+  pub replied : IsSome reply ↔ IsSome (op_of outcome)
 
 -- a send is out so; what is sent is some request in the form of its place, and calls of its key
 -- found the server up

@@ -2,12 +2,11 @@
 //! request, values that are joined, a silent request and the status are its states.
 ghost use Rattle.std.specs.Prelude.{◌≡◌, IfErr, IfOk, OnErr, OnOk, length};
 ghost use Rattle.tko_reply.specs.Answering.{Extends};
-ghost use Rattle.tko_reply.specs.Asking.{BeginsAnswer, ContinuesKeys, Goes, GoesTo, HasFront};
+ghost use Rattle.tko_reply.specs.Asking.{BeginsAnswer, ContinuesKeys, FindsTargets, Goes, HasFront};
 ghost use Rattle.tko_reply.specs.Asking.{IsJoined, Settles, course_of, front_of};
-ghost use Rattle.tko_reply.specs.Cuts.{EndsBy, IsBeginCut, IsEndOf, KeyLost};
+ghost use Rattle.tko_reply.specs.Cuts.{EndsBy, IsBeginCut, IsEndOf, IsKeyDropped, KeyLost};
 ghost use Rattle.tko_reply.specs.Sends.{AfterSend, IsOutTo};
 ghost use Rattle.tko_reply.specs.Standing.{asking, is_joined, one_of, whole_of};
-ghost use Rattle.tko_pools.specs.Configs.{AreServers};
 ghost use Rattle.tko_route.specs.Routing.{GoesOn};
 ghost use Rattle.tko_route.specs.Trail.{form_at};
 ghost use Rattle.tko_text.specs.SentRequests.{without_noreply};
@@ -141,11 +140,10 @@ impl OneKey {
         ensures ok { IfOk result (λ stage. GoesOn H.steps health.old (λ calls. Goes
             (course_of config.now targets.new.items self.old (without_noreply self.old.request))
             calls outbox.old stage self.new outbox.new) health.new) }
-        ensures targets { OnOk result (GoesTo config.now self.old.request targets.new.items) }
-        ensures within { AreServers config.now targets.new.items }
-        ensures err { OnErr result (Extends (front_of self.old.share outbox.old) outbox.new) }
-        ensures lost { IfErr result (λ trail. GoesOn H.steps health.old
-            (λ calls. KeyLost config.now self.old.request calls trail) health.new) }
+        ensures found { FindsTargets config.now self.old.request result targets.new.items }
+        ensures dropped { IfErr result (λ trail. IsKeyDropped H.steps self.old.share
+            (health.old, outbox.old) (λ calls. KeyLost config.now self.old.request calls trail)
+            (health.new, outbox.new)) }
         ensures servers { H.servers health.new ≡ H.servers health.old }
     {
         find_targets(config, &self.request, targets)?;
@@ -172,11 +170,11 @@ impl OneKey {
             (λ more. AfterSend config.now (asking awaited self.old) outcome (λ original calls.
             Goes (course_of config.now targets.now self.old original) (calls more) outbox.old
             stage self.new outbox.new)) health.new) }
-        ensures err { OnErr result (Extends (front_of self.old.share outbox.old) outbox.new) }
-        ensures lost { IfErr result (λ trail. GoesOn H.steps health.old
+        ensures dropped { IfErr result (λ trail. IsKeyDropped H.steps self.old.share
+            (health.old, outbox.old)
             (λ more. AfterSend config.now (asking awaited self.old) outcome (λ original calls.
             EndsBy targets.now (form_at config.now.failover_exptime original) (calls more) trail))
-            health.new) }
+            (health.new, outbox.new)) }
         ensures servers { H.servers health.new ≡ H.servers health.old }
     {
         let exptime = config.failover_exptime();

@@ -48,9 +48,9 @@ pub record MayTryOn (targets : List ℕ) (trail : List Attempt) (capacity : ℕ)
 -- memory ran out before a routing began: there are targets, health was asked nothing, and the
 -- request has lost its `noreply`
 pub record IsUnbegun {H : Type 0} (targets : List ℕ) (old new : H × Request) : Type 0 where
-  pub err : 0 < length targets
-  pub err_health : new.0 ≡ old.0
-  pub err_request : new.1 ≡ without_noreply old.1
+  pub some : 0 < length targets
+  pub health : new.0 ≡ old.0
+  pub request : new.1 ≡ without_noreply old.1
 
 -- these calls made a trail, and then found this server up
 pub record FindsUp (form : ℕ → Request) (calls : List RoutedCall) (trail : List Attempt)

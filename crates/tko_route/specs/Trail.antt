@@ -219,12 +219,12 @@ module _ {H L : Type 0} (upstream : Upstream H L) (targets : List ℕ) (form : �
   -- a request was routed so, and then has the form of the last target that was tried
   pub record HasRouted (old : H × L) (trail : List Attempt) (new : H × L) (request : Request)
       : Type 0 where
-    pub ok : IsRouted old trail new
-    pub ok_request : request ≡ form (length trail - 1)
+    pub routed : IsRouted old trail new
+    pub form_is : request ≡ form (length trail - 1)
 
   -- memory ran out so in a routed request, which then has the form of the target after those of the
   -- trail
   pub record HasCutShort (old : H × L) (trail : List Attempt) (sent : Bool) (new : H × L)
       (request : Request) : Type 0 where
-    pub err : IsCut old trail sent new
-    pub err_request : request ≡ form (length trail)
+    pub cut : IsCut old trail sent new
+    pub form_is : request ≡ form (length trail)

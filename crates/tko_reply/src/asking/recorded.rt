@@ -1,13 +1,11 @@
 //! A key goes on where a call that other keys share recorded what came of its send.
-ghost use Rattle.std.specs.Prelude.{◌≡◌, ◌↔◌, ◌++◌, IfErr, IfOk, IsSome, OnErr, length};
-ghost use Rattle.tko_pools.specs.Configs.{AreServers};
-ghost use Rattle.tko_reply.specs.Answering.{Extends};
-ghost use Rattle.tko_reply.specs.Asking.{Goes, HasFront, course_of, front_of};
-ghost use Rattle.tko_reply.specs.Cuts.{EndsBy};
-ghost use Rattle.tko_reply.specs.Sends.{AfterSend, IsOutTo};
+ghost use Rattle.std.specs.Prelude.{◌≡◌, ◌++◌, IfErr, IfOk, length};
+ghost use Rattle.tko_reply.specs.Asking.{Goes, HasFront, course_of};
+ghost use Rattle.tko_reply.specs.Cuts.{EndsBy, IsKeyDropped};
+ghost use Rattle.tko_reply.specs.Sends.{AfterSend, IsOutAndRecorded};
 ghost use Rattle.tko_reply.specs.Standing.{asking};
 ghost use Rattle.tko_route.specs.Routing.{GoesOn, told_of};
-ghost use Rattle.tko_route.specs.Trail.{form_at, op_of};
+ghost use Rattle.tko_route.specs.Trail.{form_at};
 
 use crate::asking::OneKey;
 use crate::dropped::Dropped;
@@ -34,18 +32,17 @@ impl OneKey {
     ) -> Result<Stage, Dropped>
         requires servers { H.servers health.old ≡ length config.now.addresses }
         requires front { HasFront self.old.share outbox.old }
-        requires out { IsOutTo config.now targets.now awaited }
-        requires replied { IsSome reply ↔ IsSome (op_of outcome) }
+        requires sent { IsOutAndRecorded config.now targets.now awaited outcome reply }
         ensures ok { IfOk result (λ stage. GoesOn H.steps health.old
             (λ more. AfterSend config.now (asking awaited self.old) outcome (λ original calls.
             Goes (course_of config.now targets.now self.old original)
             (calls (told_of awaited outcome reply ++ more)) outbox.old
             stage self.new outbox.new)) health.new) }
-        ensures err { OnErr result (Extends (front_of self.old.share outbox.old) outbox.new) }
-        ensures lost { IfErr result (λ trail. GoesOn H.steps health.old
+        ensures dropped { IfErr result (λ trail. IsKeyDropped H.steps self.old.share
+            (health.old, outbox.old)
             (λ more. AfterSend config.now (asking awaited self.old) outcome (λ original calls.
             EndsBy targets.now (form_at config.now.failover_exptime original)
-            (calls (told_of awaited outcome reply ++ more)) trail)) health.new) }
+            (calls (told_of awaited outcome reply ++ more)) trail)) (health.new, outbox.new)) }
         ensures servers { H.servers health.new ≡ H.servers health.old }
     {
         let exptime = config.failover_exptime();

@@ -25,8 +25,8 @@ returns-in-Done-clause-ok g c =
     let form = form_at c.args.exptime (without_noreply c.args.request.now) in
     let so_far = c.loop-stage.invariant.0 in
     let at = subst (λ (s : Stage). Reached c.args.targets.now form so_far.0 s) c.in-Done.is so_far.1 in record {
-      ok = is_routed (upstream g.H.Health g.L.Links) {old = (c.args.health.now, c.args.links.now)} so_far.2 at.0 at.1;
-      ok_request = subst (λ (s : Stage). c.loop-stage.request ≡ form (last_place s)) c.in-Done.is c.loop-stage.invariant.3;
+      routed = is_routed (upstream g.H.Health g.L.Links) {old = (c.args.health.now, c.args.links.now)} so_far.2 at.0 at.1;
+      form_is = subst (λ (s : Stage). c.loop-stage.request ≡ form (last_place s)) c.in-Done.is c.loop-stage.invariant.3;
     }
 
 pub returns-in-Err-clause-err : goal.returns-in-Err-clause-err
@@ -36,11 +36,11 @@ returns-in-Err-clause-err g c =
     let at = subst (λ (s : Stage). Reached c.args.targets.now form so_far.0 s) c.in-Away.is so_far.1 in
     let form_is = subst (λ (s : Stage). c.loop-stage.request ≡ form (last_place s)) c.in-Away.is c.loop-stage.invariant.3 in
     rw (c.stop.ensures.trail, c.stop.ensures.sent) (record {
-      err =
+      cut =
           is_cut (upstream g.H.Health g.L.Links) {old = (c.args.health.now, c.args.links.now)} so_far.2
           at.2 at.0.tried at.0.server at.1
           (record { item = c.in-Err.ensures.record; spent = c.in-Err.ensures.spent; sends = c.in-Err.ensures.sends }) form_is;
-      err_request = form_is;
+      form_is = form_is;
     })
 
 pub loop-stage-preserved : goal.loop-stage-preserved
