@@ -7,5 +7,6 @@ pub mod KeysSoFar
 pub mod KeysState
 pub mod Lines
 pub mod Queues
+pub mod Ready
 pub mod SlotCalls
 pub mod Steps

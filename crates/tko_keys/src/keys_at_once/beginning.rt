@@ -5,8 +5,8 @@ ghost use Rattle.std.specs.VecDeque.{deque_capacity, deque_len};
 ghost use Rattle.tko_route.specs.Routing.{GoesOn};
 ghost use Rattle.tko_keys.specs.FirstKey.{IsAlone, TakesNext, keys_with};
 ghost use Rattle.tko_keys.specs.KeysDriven.{AreUnderWay, NextBegun, NextLost};
-ghost use Rattle.tko_keys.specs.KeysState.{MayBegin};
 ghost use Rattle.tko_keys.specs.Queues.{HasMoreRoom};
+ghost use Rattle.tko_keys.specs.Ready.{IsReadyToBegin};
 
 use super::KeysAtOnce;
 use super::places::{failed_with, note_step, values_ahead};
@@ -35,8 +35,7 @@ impl KeysAtOnce {
         config: &Config,
     ) -> Result<KeyStep, Dropped>
         requires servers { H.servers health.old ≡ length config.now.addresses }
-        requires ready { AreUnderWay config.now self.old }
-        requires may { MayBegin self.old }
+        requires ready { IsReadyToBegin config.now self.old }
         ensures ok { IfOk result (λ said. GoesOn H.steps health.old
             (λ calls. NextBegun config.now self.old calls said self.new) health.new) }
         ensures lost { IfErr result (λ attempts. GoesOn H.steps health.old

@@ -1,7 +1,8 @@
 //! Keys that something came for go on.
-ghost use Rattle.std.specs.Prelude.{◌≡◌, ◌≢◌, IfErr, IfOk, [], length};
+ghost use Rattle.std.specs.Prelude.{◌≡◌, IfErr, IfOk, length};
 ghost use Rattle.tko_route.specs.Routing.{GoesOn};
 ghost use Rattle.tko_keys.specs.KeysDriven.{AreUnderWay, FirstLost, FirstTaken};
+ghost use Rattle.tko_keys.specs.Ready.{IsReadyToGoOn};
 
 use super::KeysAtOnce;
 use super::places::{failed_with, note_step, values_ahead};
@@ -23,8 +24,7 @@ impl KeysAtOnce {
         config: &Config,
     ) -> Result<KeyStep, Dropped>
         requires servers { H.servers health.old ≡ length config.now.addresses }
-        requires ready { AreUnderWay config.now self.old }
-        requires some { self.old.came.places ≢ [] }
+        requires ready { IsReadyToGoOn config.now self.old }
         ensures ok { IfOk result (λ said. GoesOn H.steps health.old (λ calls.
             FirstTaken config.now self.old calls said self.new) health.new) }
         ensures lost { IfErr result (λ attempts. GoesOn H.steps health.old (λ calls.

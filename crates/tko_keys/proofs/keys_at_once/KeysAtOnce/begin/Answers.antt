@@ -28,8 +28,8 @@ values_ahead-self-inside-requires-in-Err g c =
 
 pub returns-in-Ok-came-clause-ready : goal.returns-in-Ok-came-clause-ready
 returns-in-Ok-came-clause-ready g c =
-    let ready = subst (AreUnderWay c.args.config.now) (sym c.self.view_is) c.requires.ready in
-    let may = subst MayBegin (sym c.self.view_is) c.requires.may in
+    let ready = subst (AreUnderWay c.args.config.now) (sym c.self.view_is) c.requires.ready.ready in
+    let may = subst MayBegin (sym c.self.view_is) c.requires.ready.may in
     let place : c.len-place.result ≡ length c.self.inside.slots.items = search rules in
     begun_ready c.begin-came.new.self ready may c.in-Ok-came.ensures.ok
     (c.push_reserved.ensures.items
@@ -42,8 +42,8 @@ returns-in-Ok-came-clause-ready g c =
 
 pub returns-in-Err-clause-lost : goal.returns-in-Err-clause-lost
 returns-in-Err-clause-lost g c =
-    let ready = subst (AreUnderWay c.args.config.now) (sym c.self.view_is) c.requires.ready in
-    let may = subst MayBegin (sym c.self.view_is) c.requires.may in
+    let ready = subst (AreUnderWay c.args.config.now) (sym c.self.view_is) c.requires.ready.ready in
+    let may = subst MayBegin (sym c.self.view_is) c.requires.ready.may in
     let on = subst (λ (r : Request). GoesOn g.H.Health.steps c.args.health.now
     (λ calls. KeyLost c.args.config.now r calls c.in-Err.dropped) c.begin-came.new.health)
     (ap (λ (k : KeySlot). k.key.request) c.of-slot.ensures) c.in-Err.ensures.lost in
@@ -55,8 +55,8 @@ returns-in-Err-clause-lost g c =
 
 pub returns-in-Err-clause-ready : goal.returns-in-Err-clause-ready
 returns-in-Err-clause-ready g c =
-    let ready = subst (AreUnderWay c.args.config.now) (sym c.self.view_is) c.requires.ready in
-    let may = subst MayBegin (sym c.self.view_is) c.requires.may in
+    let ready = subst (AreUnderWay c.args.config.now) (sym c.self.view_is) c.requires.ready.ready in
+    let may = subst MayBegin (sym c.self.view_is) c.requires.ready.may in
     let on = subst (λ (r : Request). GoesOn g.H.Health.steps c.args.health.now
     (λ calls. KeyLost c.args.config.now r calls c.in-Err.dropped) c.begin-came.new.health)
     (ap (λ (k : KeySlot). k.key.request) c.of-slot.ensures) c.in-Err.ensures.lost in
@@ -68,8 +68,8 @@ returns-in-Err-clause-ready g c =
 
 pub invariant_of-self-in-Ok-came : goal.invariant_of-self-in-Ok-came
 invariant_of-self-in-Ok-came g c =
-    let ready = subst (AreUnderWay c.args.config.now) (sym c.self.view_is) c.requires.ready in
-    let may = subst MayBegin (sym c.self.view_is) c.requires.may in
+    let ready = subst (AreUnderWay c.args.config.now) (sym c.self.view_is) c.requires.ready.ready in
+    let may = subst MayBegin (sym c.self.view_is) c.requires.ready.may in
     let said = said_by c.in-Ok-came.step in
     let place : c.len-place.result ≡ length c.self.inside.slots.items = search rules in
     let slots : c.push_reserved.new.self.items ≡ c.self.inside.slots.items ++ c.begin-came.new.self
@@ -133,8 +133,8 @@ invariant_of-self-in-Ok-came g c =
 
 pub invariant_of-self-in-Err : goal.invariant_of-self-in-Err
 invariant_of-self-in-Err g c =
-    let ready = subst (AreUnderWay c.args.config.now) (sym c.self.view_is) c.requires.ready in
-    let may = subst MayBegin (sym c.self.view_is) c.requires.may in
+    let ready = subst (AreUnderWay c.args.config.now) (sym c.self.view_is) c.requires.ready.ready in
+    let may = subst MayBegin (sym c.self.view_is) c.requires.ready.may in
     let on = subst (λ (r : Request). GoesOn g.H.Health.steps c.args.health.now
     (λ calls. KeyLost c.args.config.now r calls c.in-Err.dropped) c.begin-came.new.health)
     (ap (λ (k : KeySlot). k.key.request) c.of-slot.ensures) c.in-Err.ensures.lost in

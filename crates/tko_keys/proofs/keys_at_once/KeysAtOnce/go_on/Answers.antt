@@ -11,25 +11,25 @@ use Rattle.tko_keys.proofs.keys_at_once.KeysAtOnce.go_on.Goals as goal
 
 pub take-came-requires-clause-out : goal.take-came-requires-clause-out
 take-came-requires-clause-out g c =
-    let ready = subst (AreUnderWay c.args.config.now) (sym c.self.view_is) c.requires.ready in
+    let ready = subst (AreUnderWay c.args.config.now) (sym c.self.view_is) c.requires.ready.ready in
     let at = at_came ready c.in-Some.ensures.place in
     slot_out at c.index_mut-slot.ensures.value
 
 pub values_ahead-self-inside-requires : goal.values_ahead-self-inside-requires
 values_ahead-self-inside-requires g c =
-    let ready = subst (AreUnderWay c.args.config.now) (sym c.self.view_is) c.requires.ready in
+    let ready = subst (AreUnderWay c.args.config.now) (sym c.self.view_is) c.requires.ready.ready in
     let at = at_came ready c.in-Some.ensures.place in
     ahead_set at c.take-came.new.self c.self.invariant.1 c.deref.ensures.value
 
 pub values_ahead-self-inside-requires-in-Err : goal.values_ahead-self-inside-requires-in-Err
 values_ahead-self-inside-requires-in-Err g c =
-    let ready = subst (AreUnderWay c.args.config.now) (sym c.self.view_is) c.requires.ready in
+    let ready = subst (AreUnderWay c.args.config.now) (sym c.self.view_is) c.requires.ready.ready in
     let at = at_came ready c.in-Some.ensures.place in
     ahead_set at c.take-came.new.self c.self.invariant.1 c.deref-in-Err.ensures.value
 
 pub returns-in-Ok-clause-ok : goal.returns-in-Ok-clause-ok
 returns-in-Ok-clause-ok g c =
-    let ready = subst (AreUnderWay c.args.config.now) (sym c.self.view_is) c.requires.ready in
+    let ready = subst (AreUnderWay c.args.config.now) (sym c.self.view_is) c.requires.ready.ready in
     let at = at_came ready c.in-Some.ensures.place in
     (taken_ends c.note_step.result c.note_step.ensures.says c.self.view_is
     ready at c.index_mut-slot.ensures.value c.next_place.ensures.same c.in-Ok.ensures.ok
@@ -37,7 +37,7 @@ returns-in-Ok-clause-ok g c =
 
 pub returns-in-Ok-clause-ready : goal.returns-in-Ok-clause-ready
 returns-in-Ok-clause-ready g c =
-    let ready = subst (AreUnderWay c.args.config.now) (sym c.self.view_is) c.requires.ready in
+    let ready = subst (AreUnderWay c.args.config.now) (sym c.self.view_is) c.requires.ready.ready in
     let at = at_came ready c.in-Some.ensures.place in
     (taken_ends c.note_step.result c.note_step.ensures.says c.self.view_is
     ready at c.index_mut-slot.ensures.value c.next_place.ensures.same c.in-Ok.ensures.ok
@@ -45,21 +45,21 @@ returns-in-Ok-clause-ready g c =
 
 pub returns-in-Err-clause-lost : goal.returns-in-Err-clause-lost
 returns-in-Err-clause-lost g c =
-    let ready = subst (AreUnderWay c.args.config.now) (sym c.self.view_is) c.requires.ready in
+    let ready = subst (AreUnderWay c.args.config.now) (sym c.self.view_is) c.requires.ready.ready in
     let at = at_came ready c.in-Some.ensures.place in
     (lost_ends c.self.view_is ready at c.index_mut-slot.ensures.value c.next_place.ensures.same
     c.in-Err.ensures.lost).0
 
 pub returns-in-Err-clause-ready : goal.returns-in-Err-clause-ready
 returns-in-Err-clause-ready g c =
-    let ready = subst (AreUnderWay c.args.config.now) (sym c.self.view_is) c.requires.ready in
+    let ready = subst (AreUnderWay c.args.config.now) (sym c.self.view_is) c.requires.ready.ready in
     let at = at_came ready c.in-Some.ensures.place in
     (lost_ends c.self.view_is ready at c.index_mut-slot.ensures.value c.next_place.ensures.same
     c.in-Err.ensures.lost).1
 
 pub invariant_of-self : goal.invariant_of-self
 invariant_of-self g c =
-    let ready = subst (AreUnderWay c.args.config.now) (sym c.self.view_is) c.requires.ready in
+    let ready = subst (AreUnderWay c.args.config.now) (sym c.self.view_is) c.requires.ready.ready in
     let at = at_came ready c.in-Some.ensures.place in
     let said = said_by c.in-Ok.step in
     let place = c.in-Some.place in
@@ -101,7 +101,7 @@ invariant_of-self g c =
 
 pub invariant_of-self-in-Err : goal.invariant_of-self-in-Err
 invariant_of-self-in-Err g c =
-    let ready = subst (AreUnderWay c.args.config.now) (sym c.self.view_is) c.requires.ready in
+    let ready = subst (AreUnderWay c.args.config.now) (sym c.self.view_is) c.requires.ready.ready in
     let at = at_came ready c.in-Some.ensures.place in
     let place = c.in-Some.place in
     let places = c.next_place.new.self.places in

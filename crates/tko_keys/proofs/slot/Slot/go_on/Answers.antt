@@ -12,4 +12,4 @@ pub returns-in-Err-clause-lost : goal.returns-in-Err-clause-lost
 returns-in-Err-clause-lost g c =
     slot_dropped c.args.outcome c.args.reply c.args.self.now c.self.view_is
     (sym c.replace.ensures.value ∙ c.in-Some.is) c.as_slice-targets.ensures
-    c.in-Err.ensures.lost c.replace.ensures.after
+    c.in-Err.ensures.dropped.lost c.replace.ensures.after
