@@ -1,10 +1,11 @@
 -- What items are answered from, and how answering them ends.
-use Rattle.std.specs.Prelude.{◌≡◌, Bool, true, false, List, [], MatchBool, Result, Ok, Err}
+use Rattle.std.specs.Prelude.{◌≡◌, ℕ, Bool, true, false, List, [], MatchBool, Result, Ok, Err}
 use Rattle.tko_bytes.specs.declared.memory.NoMemory.{NoMemory}
 use Rattle.tko_prober.specs.Ghosts.{BackendGhosts}
 use Rattle.tko_prober.specs.Probers.{AreQuiet, NoneMarked}
 use Rattle.tko_route.specs.declared.attempt.Attempt.{Attempt}
-use Rattle.tko_reply.specs.Interactions.{with_noted}
+use Rattle.tko_reply.specs.Answers.{Reaches}
+use Rattle.tko_reply.specs.Interactions.{with_links, with_noted}
 use Rattle.tko_reply.specs.declared.parts.Parts.{Parts}
 use Rattle.tko_session.specs.declared.step.Progress.{Progress}
 use Rattle.tko_session.specs.Working.{Between}
@@ -15,6 +16,25 @@ use Rattle.tko_session.specs.SessionState.{AnsweredPart, HasAnswered, SessionSta
 pub record IsSettled (state : SessionState) : Type 0 where
   pub between : state.work ≡ Between
   pub unowed : state.owes ≡ false
+
+-- the same of a session over parts that have the servers of the configuration
+pub record IsSettledOver {H L T C : Type 0} (servers : H → ℕ) (linked : L → ℕ)
+    (at : Snapshot (Parts H L T C)) : Type 0 where
+  pub settled : IsSettled at.state
+  pub reach : Reaches servers linked at.parts
+
+-- no request is being answered by a session over parts that have the servers of the configuration
+pub record IsBetweenOver {H L T C : Type 0} (servers : H → ℕ) (linked : L → ℕ)
+    (at : Snapshot (Parts H L T C)) : Type 0 where
+  pub between : at.state.work ≡ Between
+  pub reach : Reaches servers linked at.parts
+
+-- of the parts a send changes the links alone, and of these no count of probes
+pub record OnlySendChanges {H L T C : Type 0} (probed : L → ℕ → ℕ) (old new : Parts H L T C)
+    : Type 0 where
+  pub others : new ≡ with_links new.backend.links old
+  pub probes : (server : ℕ)
+      → probed new.backend.links server ≡ probed old.backend.links server
 
 -- where a round is still owed, a prober is at work
 abbrev pub OwesWhereBusy : {H L T C : Type 0} → Snapshot (Parts H L T C) → Type 0

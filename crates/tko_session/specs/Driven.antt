@@ -102,6 +102,16 @@ IsReadyFor config state work.HandedOver = state.begin ≡ length state.outbox
 abbrev pub IsSessionReady : Configuration → SessionState → Type 0
 IsSessionReady config state = IsReadyFor config state state.work
 
+-- the session is ready for its next call, and goes on by itself
+pub record IsReadyForNext (config : Configuration) (state : SessionState) : Type 0 where
+  pub ready : IsSessionReady config state
+  pub may : MayGoOn state.work
+
+-- the session is ready for its next call, which takes what came of the send that is out
+pub record IsReadyForOutcome (config : Configuration) (state : SessionState) : Type 0 where
+  pub ready : IsSessionReady config state
+  pub awaiting : IsAwaiting state.work
+
 -- no item is decided; or the next one is a fault, which is answered; or a request, which is kept
 pub data ItemRead (old : SessionState) (said : Step) (new : SessionState) : Type 0 where
   none : NeedsMore old.reading → said ≡ step.At progress.NeedsInput → new ≡ old

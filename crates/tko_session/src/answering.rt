@@ -1,18 +1,17 @@
 //! A session is driven over a worker's links: what it asks for is sent, and its rounds are run.
-ghost use Rattle.std.specs.Prelude.{◌≡◌, ◌≤◌, ◌<◌, ℕ, false, true, IsSome, Ok, OnOk, Some, is_err, length};
+ghost use Rattle.std.specs.Prelude.{◌≡◌, ◌≤◌, ◌<◌, false, true, IsSome, Ok, OnOk, Some, is_err, length};
 ghost use Rattle.tko_text.specs.Reading.{NeedsMore};
 ghost use Rattle.tko_prober.specs.Ghosts.{backend_ghosts};
 ghost use Rattle.tko_prober.specs.Probers.{NoneMarked};
 ghost use Rattle.tko_reply.specs.Answers.{Reaches};
 ghost use Rattle.tko_route.specs.Calls.{IsExchange, upstream};
-ghost use Rattle.tko_reply.specs.Interactions.{with_links};
 ghost use Rattle.tko_reply.specs.Replies.{reply_bound};
 ghost use Rattle.tko_reply.specs.declared.asking.OneKey.{OneKey};
 ghost use Rattle.tko_session.specs.Effects.{effects};
-ghost use Rattle.tko_session.specs.AnswerEnds.{AnsweringEnds, DriveEnds, IsRun, IsSettled, KeepsBegun, MayRunRound, OwesWhereBusy};
+ghost use Rattle.tko_session.specs.AnswerEnds.{AnsweringEnds, DriveEnds, IsBetweenOver, IsRun, IsSettled, IsSettledOver, KeepsBegun, MayRunRound, OnlySendChanges, OwesWhereBusy};
 ghost use Rattle.tko_reply.specs.declared.parts.Parts.{Parts};
 ghost use Rattle.tko_session.specs.SessionState.{HasAnswered, Snapshot, snapshot};
-ghost use Rattle.tko_session.specs.Working.{Between, key_in};
+ghost use Rattle.tko_session.specs.Working.{key_in};
 
 use crate::observing::{observe_attempts, observe_drop, observe_request, observe_trail};
 use crate::{Dropped, Parts, Progress, Session, Step, Trails, round};
@@ -33,16 +32,14 @@ pub fn answer<R: IoRuntime, H: Health, L: Links, T: Trails, C: Clock>(
     session: &mut Session,
     parts: &mut Parts<H, L, T, C>,
 ) -> Result<Progress, NoMemory>
-    requires reach { Reaches H.servers L.servers parts.old }
-    requires settled { IsSettled session.old }
+    requires settled { IsSettledOver H.servers L.servers (snapshot session.old parts.old) }
     ensures ends { AnsweringEnds (effects H.Health L.Links T.Trails C.Clock)
         (snapshot session.old parts.old) result (snapshot session.new parts.new) }
     ensures full { result ≡ Ok Progress.More → session.new.owes ≡ false
         → reply_bound ≤ length session.new.outbox }
     ensures busy { OnOk result (OwesWhereBusy (snapshot session.new parts.new)) }
     ensures begun { KeepsBegun (snapshot session.old parts.old) (snapshot session.new parts.new) }
-    ensures between { session.new.work ≡ Between }
-    ensures reach { Reaches H.servers L.servers parts.new }
+    ensures between { IsBetweenOver H.servers L.servers (snapshot session.new parts.new) }
 {
     for _ in rt.forever() {
         if session.owes_round() {
@@ -173,9 +170,7 @@ fn send<R: IoRuntime, H: Health, L: Links, T: Trails, C: Clock>(
         → IsExchange (upstream H.Health L.Links) parts.old.backend.links
         (record { server = clear; request = one.request; result = result })
         parts.new.backend.links }
-    ensures others { parts.new ≡ with_links parts.new.backend.links parts.old }
-    ensures probes { (server : ℕ) → L.probed parts.new.backend.links server
-        ≡ L.probed parts.old.backend.links server }
+    ensures others { OnlySendChanges L.probed parts.old parts.new }
     ensures reach { Reaches H.servers L.servers parts.new }
 {
     observe_attempts(rt, &mut parts.trails, session.attempts(), told);

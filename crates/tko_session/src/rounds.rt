@@ -68,8 +68,6 @@ fn visit<R: IoRuntime, H: Health, L: Links, T: Trails, C: Clock>(
     ensures sends { (at : ℕ)
         → L.sent parts.new.backend.links at ≡ L.sent parts.old.backend.links at }
     ensures others { parts.new ≡ record parts.old { backend = parts.new.backend } }
-    ensures slots { length parts.new.backend.probers.slots
-        ≡ length parts.old.backend.probers.slots }
     ensures reach { Reaches H.servers L.servers parts.new }
 {
     let Some(probe) = parts.backend.visit(rt, server, moment) else {

@@ -5,11 +5,11 @@ ghost use Rattle.tko_prober.specs.Ghosts.{backend_ghosts};
 ghost use Rattle.tko_prober.specs.Probers.{NoneMarked};
 ghost use Rattle.tko_session.specs.Effects.{effects};
 ghost use Rattle.tko_session.specs.Events.{Rounded};
-ghost use Rattle.tko_session.specs.AnswerEnds.{IsSettled};
+ghost use Rattle.tko_session.specs.AnswerEnds.{IsBetweenOver, IsSettledOver};
 ghost use Rattle.tko_session.specs.Ends.{DeliveryEnds, PieceEnds, SessionEnds, WriteEnds};
 ghost use Rattle.tko_session.specs.Served.{context, delivering, delivery, serving};
 ghost use Rattle.tko_reply.specs.Answers.{Reaches};
-ghost use Rattle.tko_session.specs.SessionState.{fed_state, fresh_session};
+ghost use Rattle.tko_session.specs.SessionState.{fed_state, fresh_session, snapshot};
 ghost use Rattle.tko_session.specs.Working.{Between};
 
 use crate::answering::{answer, run_owed_round};
@@ -109,16 +109,14 @@ fn serve_piece<R: IoRuntime, O: Outlet, H: Health, L: Links, T: Trails, C: Clock
     piece: &[u8],
     written: &mut u64,
 ) -> Result<bool, SessionFault>
-    requires reach { Reaches H.servers L.servers parts.old }
-    requires settled { IsSettled session.old }
+    requires settled { IsSettledOver H.servers L.servers (snapshot session.old parts.old) }
     requires outbox { session.old.outbox ≡ [] }
     requires reads { session.old.reading.after ≢ Never }
     ensures ends { PieceEnds (delivering O.Outlet (effects H.Health L.Links T.Trails C.Clock))
         (delivery (fed_state session.old piece.now) parts.old writer.old written.old) result
         (delivery session.new parts.new writer.new written.new) }
     ensures begun { NoneMarked parts.old.backend.probers → NoneMarked parts.new.backend.probers }
-    ensures between { session.new.work ≡ Between }
-    ensures reach { Reaches H.servers L.servers parts.new }
+    ensures between { IsBetweenOver H.servers L.servers (snapshot session.new parts.new) }
 {
     session.feed(piece)?;
     for _ in rt.forever() {
@@ -143,15 +141,13 @@ fn deliver<R: IoRuntime, O: Outlet, H: Health, L: Links, T: Trails, C: Clock>(
     parts: &mut Parts<H, L, T, C>,
     written: &mut u64,
 ) -> Result<Progress, SessionFault>
-    requires reach { Reaches H.servers L.servers parts.old }
-    requires settled { IsSettled session.old }
+    requires settled { IsSettledOver H.servers L.servers (snapshot session.old parts.old) }
     requires outbox { session.old.outbox ≡ [] }
     ensures ends { DeliveryEnds (delivering O.Outlet (effects H.Health L.Links T.Trails C.Clock))
         (delivery session.old parts.old writer.old written.old) result
         (delivery session.new parts.new writer.new written.new) }
     ensures begun { NoneMarked parts.old.backend.probers → NoneMarked parts.new.backend.probers }
-    ensures between { session.new.work ≡ Between }
-    ensures reach { Reaches H.servers L.servers parts.new }
+    ensures between { IsBetweenOver H.servers L.servers (snapshot session.new parts.new) }
 {
     let answered = answer(rt, alloc, session, parts);
     let wrote = write_replies(rt, session, writer, written);

@@ -6,7 +6,7 @@ ghost use Rattle.tko_text.specs.Reading.{Never};
 ghost use Rattle.tko_route.specs.Routing.{GoesOn};
 ghost use Rattle.tko_reply.specs.Standing.{SentKey};
 ghost use Rattle.tko_reply.specs.declared.asking.OneKey.{OneKey};
-ghost use Rattle.tko_session.specs.Driven.{AwaitedDropped, AwaitedTaken, IsAwaiting, IsSessionReady, MayGoOn, WasDropped, WentOn, dropped};
+ghost use Rattle.tko_session.specs.Driven.{AwaitedDropped, AwaitedTaken, IsAwaiting, IsReadyForNext, IsReadyForOutcome, IsSessionReady, WasDropped, WentOn, dropped};
 ghost use Rattle.tko_session.specs.Working.{Awaits, key_in};
 ghost use Rattle.tko_session.specs.SessionState.{fed_state, fresh_session};
 
@@ -127,8 +127,7 @@ impl Session {
         config: &Config,
     ) -> Result<Step, Dropped>
         requires servers { H.servers health.old ≡ length config.now.addresses }
-        requires ready { IsSessionReady config.now self.old }
-        requires may { MayGoOn self.old.work }
+        requires ready { IsReadyForNext config.now self.old }
         ensures ok { IfOk result (λ step. GoesOn H.steps health.old
             (λ calls. WentOn config.now self.old calls step self.new) health.new) }
         ensures err { IfErr result (λ attempts. GoesOn H.steps health.old
@@ -167,8 +166,7 @@ impl Session {
         outcome: Outcome,
     ) -> Result<Step, Dropped>
         requires servers { H.servers health.old ≡ length config.now.addresses }
-        requires ready { IsSessionReady config.now self.old }
-        requires awaiting { IsAwaiting self.old.work }
+        requires ready { IsReadyForOutcome config.now self.old }
         ensures ok { IfOk result (λ step. GoesOn H.steps health.old
             (λ calls. AwaitedTaken config.now outcome self.old calls step self.new) health.new) }
         ensures err { IfErr result (λ attempts. GoesOn H.steps health.old

@@ -7,7 +7,7 @@ use Rattle.tko_session.proofs.AnsweredLemmas.{answered_none, answered_append, pa
 use Rattle.tko_session.proofs.answering.answer.Goals as goal
 
 pub loop-init : goal.loop-init
-loop-init g c = (answered_none c.args.session.now c.args.parts.now, c.requires.reach, λ begun none. begun, c.requires.settled.between, λ owed. cc)
+loop-init g c = (answered_none c.args.session.now c.args.parts.now, c.requires.settled.reach, λ begun none. begun, c.requires.settled.settled.between, λ owed. cc)
 
 pub returns-in_err-end_item-in-Ok-clause-ends : goal.returns-in_err-end_item-in-Ok-clause-ends
 returns-in_err-end_item-in-Ok-clause-ends g c =
@@ -21,7 +21,11 @@ returns-in_err-end_item-in-Ok-clause-begun g c = λ begun none.
     (c.loop.invariant.2 begun (sym c.owes_round.ensures ∙ c.if-owes_round.false))) none
 
 pub returns-in_err-end_item-in-Ok-clause-between : goal.returns-in_err-end_item-in-Ok-clause-between
-returns-in_err-end_item-in-Ok-clause-between g c = c.in_err-end_item-in-Ok.ensures.work ∙ c.in-Ok.ensures.ends.between
+returns-in_err-end_item-in-Ok-clause-between g c =
+    record {
+      between = c.in_err-end_item-in-Ok.ensures.work ∙ c.in-Ok.ensures.ends.between;
+      reach = c.in_err-end_item-in-Ok.ensures.reach;
+    }
 
 pub loop-preserved : goal.loop-preserved
 loop-preserved g c =
@@ -46,7 +50,11 @@ returns-in-NeedsInput-clause-begun g c = λ begun none.
     (c.loop.invariant.2 begun (sym c.owes_round.ensures ∙ c.if-owes_round.false))) none
 
 pub returns-in-NeedsInput-clause-between : goal.returns-in-NeedsInput-clause-between
-returns-in-NeedsInput-clause-between g c = c.in_ok-end_item-in-Ok.ensures.work ∙ c.in-Ok.ensures.ends.between
+returns-in-NeedsInput-clause-between g c =
+    record {
+      between = c.in_ok-end_item-in-Ok.ensures.work ∙ c.in-Ok.ensures.ends.between;
+      reach = c.in_ok-end_item-in-Ok.ensures.reach;
+    }
 
 pub returns-in-LineTooLong-clause-ends : goal.returns-in-LineTooLong-clause-ends
 returns-in-LineTooLong-clause-ends g c =
@@ -59,7 +67,11 @@ returns-in-LineTooLong-clause-begun g c = λ begun none.
     (c.loop.invariant.2 begun (sym c.owes_round.ensures ∙ c.if-owes_round.false))) none
 
 pub returns-in-LineTooLong-clause-between : goal.returns-in-LineTooLong-clause-between
-returns-in-LineTooLong-clause-between g c = c.in_ok-end_item-in-Ok.ensures.work ∙ c.in-Ok.ensures.ends.between
+returns-in-LineTooLong-clause-between g c =
+    record {
+      between = c.in_ok-end_item-in-Ok.ensures.work ∙ c.in-Ok.ensures.ends.between;
+      reach = c.in_ok-end_item-in-Ok.ensures.reach;
+    }
 
 pub returns-in-Quit-clause-ends : goal.returns-in-Quit-clause-ends
 returns-in-Quit-clause-ends g c =
@@ -72,7 +84,11 @@ returns-in-Quit-clause-begun g c = λ begun none.
     (c.loop.invariant.2 begun (sym c.owes_round.ensures ∙ c.if-owes_round.false))) none
 
 pub returns-in-Quit-clause-between : goal.returns-in-Quit-clause-between
-returns-in-Quit-clause-between g c = c.in_ok-end_item-in-Ok.ensures.work ∙ c.in-Ok.ensures.ends.between
+returns-in-Quit-clause-between g c =
+    record {
+      between = c.in_ok-end_item-in-Ok.ensures.work ∙ c.in-Ok.ensures.ends.between;
+      reach = c.in_ok-end_item-in-Ok.ensures.reach;
+    }
 
 pub returns-in-Err-clause-ends : goal.returns-in-Err-clause-ends
 returns-in-Err-clause-ends g c = rw c.observe_drop.ensures (part_after c.loop.invariant.0 (c.in-Err.ensures.ends c.observe_drop.result).ends)
@@ -83,7 +99,8 @@ returns-in-Err-clause-begun g c = λ begun none.
     (c.loop.invariant.2 begun (sym c.owes_round.ensures ∙ c.if-owes_round.false)))
 
 pub returns-in-Err-clause-between : goal.returns-in-Err-clause-between
-returns-in-Err-clause-between g c = (c.in-Err.ensures.ends c.observe_drop.result).between
-
-pub returns-in-Err-clause-reach : goal.returns-in-Err-clause-reach
-returns-in-Err-clause-reach g c = rw c.observe_drop.ensures (noted_reach c.in-Err.dropped c.in-Err.ensures.reach)
+returns-in-Err-clause-between g c =
+    record {
+      between = (c.in-Err.ensures.ends c.observe_drop.result).between;
+      reach = rw c.observe_drop.ensures (noted_reach c.in-Err.dropped c.in-Err.ensures.reach);
+    }

@@ -7,7 +7,7 @@ use Rattle.tko_reply.specs.Interactions.{with_health, with_noted}
 use Rattle.tko_reply.specs.Answers.{Reaches}
 use Rattle.tko_reply.proofs.InteractionLemmas.{gains_told}
 use Rattle.tko_reply.proofs.ReachLemmas.{noted_reach, recorded_reach, told_reach}
-use Rattle.tko_session.specs.Driven.{IsAwaiting, IsReadyFor, MayGoOn, WasDropped, WentOn}
+use Rattle.tko_session.specs.Driven.{IsAwaiting, IsReadyFor, IsSessionReady, MayGoOn, WasDropped, WentOn}
 use Rattle.tko_session.specs.SessionState.{SessionState, snapshot}
 use Rattle.tko_session.specs.Working.{key_in}
 use Rattle.tko_session.proofs.DrivenLemmas.{on_asks, on_at, on_began, on_tried, past_on, past_told, read_on, same_ok, sent_on_after, taken_on}
@@ -15,10 +15,11 @@ use Rattle.tko_session.proofs.DroppedLemmas.{cut_ends, over_ends, past_lost, rea
 use Rattle.tko_session.proofs.answering.drive.Goals as goal
 
 pub next-requires-clause-ready : goal.next-requires-clause-ready
-next-requires-clause-ready g c = subst (IsReadyFor c.args.parts.now.config c.args.session.now) (sym c.requires.settled.between) tt
-
-pub next-requires-clause-may : goal.next-requires-clause-may
-next-requires-clause-may g c = subst MayGoOn (sym c.requires.settled.between) tt
+next-requires-clause-ready g c =
+    record {
+      ready = subst (IsReadyFor c.args.parts.now.config c.args.session.now) (sym c.requires.settled.between) tt;
+      may = subst MayGoOn (sym c.requires.settled.between) tt;
+    }
 
 pub returns-in_err-step-clause-ends : goal.returns-in_err-step-clause-ends
 returns-in_err-step-clause-ends g c =
@@ -52,8 +53,12 @@ returns-in-At-clause-more g c = λ is. (on_at c.in-At.is c.loop.invariant.0).mor
 pub send-requires-clause-lends : goal.send-requires-clause-lends
 send-requires-clause-lends g c = subst (λ w. IsSome (key_in w)) (sym (on_asks c.in-Asks.is c.loop.invariant.0).at) refl
 
-pub answered-requires-clause-awaiting : goal.answered-requires-clause-awaiting
-answered-requires-clause-awaiting g c = subst IsAwaiting (sym (on_asks c.in-Asks.is c.loop.invariant.0).at) tt
+pub answered-requires-clause-ready : goal.answered-requires-clause-ready
+answered-requires-clause-ready g c =
+    record {
+      ready = subst (λ config. IsSessionReady config c.loop.session) (sym (ap (λ parts. parts.config) c.in-Ok.ensures.others.others)) c.loop.invariant.1;
+      awaiting = subst IsAwaiting (sym (on_asks c.in-Asks.is c.loop.invariant.0).at) tt;
+    }
 
 pub returns-in_err-step-in-Ok-clause-ends : goal.returns-in_err-step-in-Ok-clause-ends
 returns-in_err-step-in-Ok-clause-ends g c =
@@ -63,8 +68,8 @@ returns-in_err-step-in-Ok-clause-ends g c =
     let came = c.in-Ok.ensures in
     let on = c.in_err-step-in-Ok.ensures.err in
     let attempts = c.in_err-step-in-Ok.field-0.0 in
-    rw (p.1, p.2) (cut_ends attempts (with_health c.answered.new.health c.send.new.parts) (sent_cut_after g.H.Health g.L.Links g.T.Trails g.C.Clock {old = snapshot c.args.session.now c.args.parts.now} c.answered.new.health came.others
-    c.requires.settled.unowed out (came.exchange out.sent.key (ap key_in out.at)) came.probes (on.is out.sent out.at) (gains_told ghosts on.gains)))
+    rw (p.1, p.2) (cut_ends attempts (with_health c.answered.new.health c.send.new.parts) (sent_cut_after g.H.Health g.L.Links g.T.Trails g.C.Clock {old = snapshot c.args.session.now c.args.parts.now} c.answered.new.health came.others.others
+    c.requires.settled.unowed out (came.exchange out.sent.key (ap key_in out.at)) came.others.probes (on.is out.sent out.at) (gains_told ghosts on.gains)))
 
 pub returns-in_err-step-in-Ok-clause-reach : goal.returns-in_err-step-in-Ok-clause-reach
 returns-in_err-step-in-Ok-clause-reach g c = told_reach c.in-Ok.ensures.reach c.in_err-step-in-Ok.ensures.servers
@@ -76,8 +81,8 @@ loop-preserved-in-Ok g c =
     let came = c.in-Ok.ensures in
     let then = c.in_ok-step-in-Ok.ensures in
     let on = then.ok in (
-      sent_on_after g.H.Health g.L.Links g.T.Trails g.C.Clock c.answered.new.health came.others
-          out (came.exchange out.sent.key (ap key_in out.at)) came.probes (on.is out.sent out.at) (gains_told ghosts on.gains),
+      sent_on_after g.H.Health g.L.Links g.T.Trails g.C.Clock c.answered.new.health came.others.others
+          out (came.exchange out.sent.key (ap key_in out.at)) came.others.probes (on.is out.sent out.at) (gains_told ghosts on.gains),
       then.ready,
       told_reach came.reach then.servers,
     )
@@ -89,14 +94,23 @@ pub returns-in-Err-clause-ends : goal.returns-in-Err-clause-ends
 returns-in-Err-clause-ends g c =
     let out = on_asks c.in-Asks.is c.loop.invariant.0 in
     let came = c.in-Err.ensures in
-    cut_ends c.stop.result c.send.new.parts (stop_cut_after g.H.Health g.L.Links g.T.Trails g.C.Clock {old = snapshot c.args.session.now c.args.parts.now} came.others
-    c.requires.settled.unowed out (came.exchange out.sent.key (ap key_in out.at)) came.probes c.stop.ensures.dropped (c.stop.ensures.attempts out.sent out.at))
+    cut_ends c.stop.result c.send.new.parts (stop_cut_after g.H.Health g.L.Links g.T.Trails g.C.Clock {old = snapshot c.args.session.now c.args.parts.now} came.others.others
+    c.requires.settled.unowed out (came.exchange out.sent.key (ap key_in out.at)) came.others.probes c.stop.ensures.dropped (c.stop.ensures.attempts out.sent out.at))
 
 pub returns-in_err-observe_request-in-Began-clause-ends : goal.returns-in_err-observe_request-in-Began-clause-ends
 returns-in_err-observe_request-in-Began-clause-ends g c =
     let p = err_from_is_err_and c.from_residual-in_err-observe_request-in-Began.result c.from_residual-in_err-observe_request-in-Began.ensures.1 in
     let told = c.in_err-observe_request-in-Began.ensures in
     rw (p.1, p.2) (unrecorded_ends _ c.requires.settled.unowed (on_began c.in-Began.is c.loop.invariant.0) told.session.attempts told.session.dropped told.err)
+
+pub next-requires-in-Began-clause-ready : goal.next-requires-in-Began-clause-ready
+next-requires-in-Began-clause-ready g c =
+    let same = c.in_ok-observe_request-in-Began.ensures.session.same in
+    let taken = on_began c.in-Began.is c.loop.invariant.0 in
+    record {
+      ready = subst (IsSessionReady c.loop.parts.config) (sym same) c.loop.invariant.1;
+      may = subst (λ (s : SessionState). MayGoOn s.work) (sym (same ∙ taken.state)) tt;
+    }
 
 pub returns-in_err-step-in-Began-clause-ends : goal.returns-in_err-step-in-Began-clause-ends
 returns-in_err-step-in-Began-clause-ends g c =
@@ -138,6 +152,17 @@ pub returns-in_err-observe_trail-in-Tried-clause-reach : goal.returns-in_err-obs
 returns-in_err-observe_trail-in-Tried-clause-reach g c =
     subst (λ parts. Reaches g.H.Health.servers g.L.Links.servers parts) (sym c.in_err-observe_trail-in-Tried.ensures.noted)
     (recorded_reach (noted_reach c.in-Tried.trail c.loop.invariant.2))
+
+pub next-requires-in-Tried-clause-ready : goal.next-requires-in-Tried-clause-ready
+next-requires-in-Tried-clause-ready g c =
+    let told = c.in_ok-observe_trail-in-Tried.ensures in
+    let same = told.session.same in
+    let tried = (on_tried c.in-Tried.is c.loop.invariant.0).tried in
+    let ready = subst (IsSessionReady c.loop.parts.config) (sym same) c.loop.invariant.1 in
+    record {
+      ready = subst (λ config. IsSessionReady config c.observe_trail.new.session) (sym (ap (λ parts. parts.config) told.noted)) ready;
+      may = subst (λ (s : SessionState). MayGoOn s.work) (sym same) (subst MayGoOn (sym tried.at) tt);
+    }
 
 pub returns-in_err-step-in-Tried-clause-ends : goal.returns-in_err-step-in-Tried-clause-ends
 returns-in_err-step-in-Tried-clause-ends g c =

@@ -1,4 +1,4 @@
-use Rattle.std.proofs.Common.{◌∙◌, refl}
+use Rattle.std.proofs.Common.{◌∙◌, ap, length, refl, sym}
 use Rattle.tko_prober.proofs.RoundLemmas.{visited_more, visited_none}
 use Rattle.tko_session.proofs.EventLemmas.{visited_others}
 use Rattle.tko_session.proofs.rounds.visit_all.Goals as goal
@@ -13,6 +13,6 @@ loop-server-preserved g c =
       visited_more visits one.visit,
       λ server. one.sends server ∙ sends server,
       visited_others c.args.parts.now c.loop-server.parts others one.others,
-      one.slots ∙ slots,
+      one.reach.probers ∙ ap (λ parts. length parts.config.addresses) one.others ∙ sym reach.probers ∙ slots,
       one.reach,
     )

@@ -9,7 +9,10 @@ use Rattle.tko_session.specs.AnswerEnds.{none_waits}
 use Rattle.tko_session.proofs.serving.deliver.Goals as goal
 
 pub write_replies-wrote-requires : goal.write_replies-wrote-requires
-write_replies-wrote-requires g c = record { between = c.answer-answered.ensures.between }
+write_replies-wrote-requires g c = record { between = c.answer-answered.ensures.between.between }
+
+pub run_owed_round-rounded-requires-clause-reach : goal.run_owed_round-rounded-requires-clause-reach
+run_owed_round-rounded-requires-clause-reach g c = c.answer-answered.ensures.between.reach
 
 pub run_owed_round-rounded-requires-clause-late : goal.run_owed_round-rounded-requires-clause-late
 run_owed_round-rounded-requires-clause-late g c = none_waits c.write_replies-wrote.ensures.taken
@@ -32,10 +35,10 @@ returns-in_err-wrote-clause-begun g c = λ begun.
 
 pub returns-in_err-wrote-clause-between : goal.returns-in_err-wrote-clause-between
 returns-in_err-wrote-clause-between g c =
-    ap (λ s. s.work) c.run_owed_round-rounded.ensures.none_owed ∙ ap (λ s. s.work) c.in_err-wrote.ensures.others ∙ c.answer-answered.ensures.between
-
-pub returns-in_err-wrote-clause-reach : goal.returns-in_err-wrote-clause-reach
-returns-in_err-wrote-clause-reach g c = c.run_owed_round-rounded.ensures.reach
+    record {
+      between = ap (λ s. s.work) c.run_owed_round-rounded.ensures.none_owed ∙ ap (λ s. s.work) c.in_err-wrote.ensures.others ∙ c.answer-answered.ensures.between.between;
+      reach = c.run_owed_round-rounded.ensures.reach;
+    }
 
 pub returns-in_err-progress-clause-ends : goal.returns-in_err-progress-clause-ends
 returns-in_err-progress-clause-ends g c =
@@ -50,10 +53,10 @@ returns-in_err-progress-clause-begun g c = λ begun.
 
 pub returns-in_err-progress-clause-between : goal.returns-in_err-progress-clause-between
 returns-in_err-progress-clause-between g c =
-    ap (λ s. s.work) c.run_owed_round-rounded.ensures.none_owed ∙ ap (λ s. s.work) c.in_ok-wrote.ensures.others ∙ c.answer-answered.ensures.between
-
-pub returns-in_err-progress-clause-reach : goal.returns-in_err-progress-clause-reach
-returns-in_err-progress-clause-reach g c = c.run_owed_round-rounded.ensures.reach
+    record {
+      between = ap (λ s. s.work) c.run_owed_round-rounded.ensures.none_owed ∙ ap (λ s. s.work) c.in_ok-wrote.ensures.others ∙ c.answer-answered.ensures.between.between;
+      reach = c.run_owed_round-rounded.ensures.reach;
+    }
 
 pub returns-in_err-rounded-clause-ends : goal.returns-in_err-rounded-clause-ends
 returns-in_err-rounded-clause-ends g c =
@@ -68,10 +71,10 @@ returns-in_err-rounded-clause-begun g c = λ begun.
 
 pub returns-in_err-rounded-clause-between : goal.returns-in_err-rounded-clause-between
 returns-in_err-rounded-clause-between g c =
-    ap (λ s. s.work) c.run_owed_round-rounded.ensures.none_owed ∙ ap (λ s. s.work) c.in_ok-wrote.ensures.others ∙ c.answer-answered.ensures.between
-
-pub returns-in_err-rounded-clause-reach : goal.returns-in_err-rounded-clause-reach
-returns-in_err-rounded-clause-reach g c = c.run_owed_round-rounded.ensures.reach
+    record {
+      between = ap (λ s. s.work) c.run_owed_round-rounded.ensures.none_owed ∙ ap (λ s. s.work) c.in_ok-wrote.ensures.others ∙ c.answer-answered.ensures.between.between;
+      reach = c.run_owed_round-rounded.ensures.reach;
+    }
 
 pub returns-clause-ends : goal.returns-clause-ends
 returns-clause-ends g c =
@@ -87,7 +90,7 @@ returns-clause-begun g c = λ begun.
 
 pub returns-clause-between : goal.returns-clause-between
 returns-clause-between g c =
-    ap (λ s. s.work) c.run_owed_round-rounded.ensures.none_owed ∙ ap (λ s. s.work) c.in_ok-wrote.ensures.others ∙ c.answer-answered.ensures.between
-
-pub returns-clause-reach : goal.returns-clause-reach
-returns-clause-reach g c = c.run_owed_round-rounded.ensures.reach
+    record {
+      between = ap (λ s. s.work) c.run_owed_round-rounded.ensures.none_owed ∙ ap (λ s. s.work) c.in_ok-wrote.ensures.others ∙ c.answer-answered.ensures.between.between;
+      reach = c.run_owed_round-rounded.ensures.reach;
+    }

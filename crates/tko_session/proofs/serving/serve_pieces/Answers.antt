@@ -56,7 +56,11 @@ returns-then-ended-clause-ends g c =
     )
 
 pub serve_piece-requires-clause-settled : goal.serve_piece-requires-clause-settled
-serve_piece-requires-clause-settled g c = record { between = c.loop.invariant.5; unowed = c.loop.invariant.0.delivered.owes }
+serve_piece-requires-clause-settled g c =
+    record {
+      settled = record { between = c.loop.invariant.5; unowed = c.loop.invariant.0.delivered.owes };
+      reach = c.loop.invariant.3;
+    }
 
 pub serve_piece-requires-clause-reads : goal.serve_piece-requires-clause-reads
 serve_piece-requires-clause-reads g c = so_far_reads c.loop.invariant.0
@@ -71,9 +75,9 @@ loop-preserved g c =
       more,
       omega (arith, read.failures, c.loop.invariant.1),
       all.calm ∙ c.loop.invariant.2,
-      passed.reach,
+      passed.between.reach,
       omega (arith, c.read_piece.auto.buffer, c.loop.invariant.4),
-      passed.between,
+      passed.between.between,
       λ begun. passed.begun (c.loop.invariant.6 begun),
     )
 
@@ -88,6 +92,12 @@ returns-then-quit-clause-ends g c =
       served_quit report.result more report.ensures.requests report.ensures.unfinished fits,
       record { reads = omega (arith, read.failures, c.loop.invariant.1); writes = all.calm ∙ c.loop.invariant.2 },
     )
+
+pub returns-then-quit-clause-reach : goal.returns-then-quit-clause-reach
+returns-then-quit-clause-reach g c = c.in_ok-quit-in-Bytes.ensures.between.reach
+
+pub returns-in_err-quit-in-Bytes-clause-reach : goal.returns-in_err-quit-in-Bytes-clause-reach
+returns-in_err-quit-in-Bytes-clause-reach g c = c.in_err-quit-in-Bytes.ensures.between.reach
 
 pub returns-in_err-quit-in-Bytes-clause-ends : goal.returns-in_err-quit-in-Bytes-clause-ends
 returns-in_err-quit-in-Bytes-clause-ends g c =

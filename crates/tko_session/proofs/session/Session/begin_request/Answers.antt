@@ -71,7 +71,7 @@ returns-in-Ok-begin-clause-ok g c =
     going_then c.in-Ok.ensures.ok c.in-Ok-begin.ensures.ok (λ calls more begins goes.
     request_keyed c.args.config.now is c.if-not-keyed.false
     (subst (λ (s : SessionState). BeginsAnswer c.args.config.now key.request s.outbox calls c.in-Ok.keyed c.first.new.self c.first.new.outbox) same begins)
-    (λ waits. key_begun c.first.new.self c.in-Ok-begin.stage c.begin.new.self more _ _ _ _ _ _ _ goes c.in-Ok-begin.ensures.targets c.in-Ok-begin.ensures.within
+    (λ waits. key_begun c.first.new.self c.in-Ok-begin.stage c.begin.new.self more _ _ _ _ _ _ _ goes c.in-Ok-begin.ensures.found.targets c.in-Ok-begin.ensures.found.within
     (c.go_to.ensures.step _ (key_of_work _ at)) (c.go_to.ensures.went _ (key_of_work _ at)) (waits)
     (ap (λ (s : SessionState). s.reading) same) (ap (λ (s : SessionState). s.requests) same)
     (ap (λ (s : SessionState). s.owes) same) (ap (λ (s : SessionState). s.begin) same)))
@@ -88,11 +88,11 @@ returns-in-Err-clause-err g c =
     let first = begins_first c.if-not-keyed.false c.in-Ok.ensures.ok.is in
     let held = subst (λ xs. BeginsAt c.self.inside.begin c.first.new.self.share xs) (sym first.1)
     (first_held c.self.inside.begin key.request c.self.inside.outbox c.first.new.self begin first.0) in
-    going_then c.in-Ok.ensures.ok c.in-Err.ensures.lost (λ calls more begins lost.
+    going_then c.in-Ok.ensures.ok c.in-Err.ensures.dropped.lost (λ calls more begins lost.
     request_lost c.args.config.now is c.if-not-keyed.false
     (subst (λ (s : SessionState). BeginsAnswer c.args.config.now key.request s.outbox calls c.in-Ok.keyed c.first.new.self c.first.new.outbox) same begins)
     (λ waits.
-    let left = front_stays _ _ _ _ held c.in-Err.ensures.err ∙ ap (take c.self.inside.begin) waits ∙ ap (λ (s : SessionState). take s.begin c.args.self.now.outbox) same in
+    let left = front_stays _ _ _ _ held c.in-Err.ensures.dropped.kept ∙ ap (take c.self.inside.begin) waits ∙ ap (λ (s : SessionState). take s.begin c.args.self.now.outbox) same in
     let again = dropped_again c.args.self.now _ _ _ _ _ _ left (ap (λ (s : SessionState). s.reading) same) (ap (λ (s : SessionState). s.requests) same)
     (ap (λ (s : SessionState). s.owes) same) (ap (λ (s : SessionState). s.begin) same) in
     key_dropped c.first.new.self more c.in-Err.lost _ lost c.drop_after-in-Err.ensures.attempts (c.drop_after-in-Err.ensures.dropped ∙ again)))

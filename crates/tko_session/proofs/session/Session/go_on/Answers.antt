@@ -56,7 +56,7 @@ returns-in-Ok-begin-clause-ok g c =
     let goes = subst (λ (s : SessionState). ContinuesKeys key s.outbox c.in-Ok.keyed c.go_on.new.self c.go_on.new.outbox) same c.in-Ok.ensures.ok in
     going c.in-Ok-begin.ensures.ok (λ calls on.
     key_passed c.args.config.now is c.if-not-keyed.false goes
-    (λ waits. key_begun c.go_on.new.self c.in-Ok-begin.stage c.begin.new.self calls _ _ _ _ _ _ _ on c.in-Ok-begin.ensures.targets c.in-Ok-begin.ensures.within
+    (λ waits. key_begun c.go_on.new.self c.in-Ok-begin.stage c.begin.new.self calls _ _ _ _ _ _ _ on c.in-Ok-begin.ensures.found.targets c.in-Ok-begin.ensures.found.within
     (c.go_to.ensures.step _ (key_of_work _ at)) (c.go_to.ensures.went _ (key_of_work _ at)) (waits)
     (ap (λ (s : SessionState). s.reading) same) (ap (λ (s : SessionState). s.requests) same)
     (ap (λ (s : SessionState). s.owes) same) (ap (λ (s : SessionState). s.begin) same)))
@@ -73,10 +73,10 @@ returns-in-Err-clause-err g c =
     let goes' = subst (λ b. ContinuesKeys key c.self.inside.outbox b c.go_on.new.self c.go_on.new.outbox) c.if-not-keyed.false c.in-Ok.ensures.ok in
     let held = next_held c.self.inside.begin key c.go_on.new.self c.self.inside.outbox c.go_on.new.outbox held' goes' in
     let goes = subst (λ (s : SessionState). ContinuesKeys key s.outbox c.in-Ok.keyed c.go_on.new.self c.go_on.new.outbox) same c.in-Ok.ensures.ok in
-    going c.in-Err.ensures.lost (λ calls lost.
+    going c.in-Err.ensures.dropped.lost (λ calls lost.
     pass_lost c.args.config.now is c.if-not-keyed.false goes
     (λ waits.
-    let left = front_stays _ _ _ _ held c.in-Err.ensures.err ∙ ap (take c.self.inside.begin) waits ∙ ap (λ (s : SessionState). take s.begin c.args.self.now.outbox) same in
+    let left = front_stays _ _ _ _ held c.in-Err.ensures.dropped.kept ∙ ap (take c.self.inside.begin) waits ∙ ap (λ (s : SessionState). take s.begin c.args.self.now.outbox) same in
     let again = dropped_again c.args.self.now _ _ _ _ _ _ left (ap (λ (s : SessionState). s.reading) same) (ap (λ (s : SessionState). s.requests) same)
     (ap (λ (s : SessionState). s.owes) same) (ap (λ (s : SessionState). s.begin) same) in
     key_dropped c.go_on.new.self calls c.in-Err.lost _ lost c.drop_after-in-Err.ensures.attempts (c.drop_after-in-Err.ensures.dropped ∙ again)))

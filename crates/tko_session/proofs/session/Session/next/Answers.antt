@@ -13,9 +13,9 @@ returns-in_ok-next_item-in-Between-clause-ok g c =
 pub returns-in-Read-clause-ready : goal.returns-in-Read-clause-ready
 returns-in-Read-clause-ready g c =
     on_ok_if c.begin_request.result c.begin_request.ensures.ok (λ step on.
-    went_ready c.args.config.now c.args.self.now c.begin_request.new.self (map Told on.items) step c.requires.ready on.is)
+    went_ready c.args.config.now c.args.self.now c.begin_request.new.self (map Told on.items) step c.requires.ready.ready on.is)
 
 pub returns-in-Tried-clause-ready : goal.returns-in-Tried-clause-ready
 returns-in-Tried-clause-ready g c =
     on_ok_if c.go_on.result c.go_on.ensures.ok (λ step on.
-    went_ready c.args.config.now c.args.self.now c.go_on.new.self (map Told on.items) step c.requires.ready on.is)
+    went_ready c.args.config.now c.args.self.now c.go_on.new.self (map Told on.items) step c.requires.ready.ready on.is)
