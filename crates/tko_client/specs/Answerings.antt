@@ -1,6 +1,6 @@
 -- What a client's requests are answered by: its session, or the keys of a request that the session
 -- handed over.
-use Rattle.std.specs.Prelude.{◌≡◌, ◌<◌, ◌+◌, ℕ, List, [], Option, Some, None, length}
+use Rattle.std.specs.Prelude.{◌≡◌, ◌<◌, ◌+◌, ℕ, List, [], Option, Some, None, IsSome, length}
 use Rattle.tko_bytes.specs.Numbers.{capped}
 use Rattle.tko_text.specs.declared.request.Request.{Request}
 use Rattle.tko_pools.specs.Configs.{Configuration}
@@ -8,7 +8,7 @@ use Rattle.tko_reply.specs.Replies.{reply_bound}
 use Rattle.tko_mux.specs.Awaits.{awaited_one}
 use Rattle.tko_keys.specs.KeysDriven.{AreUnderWay}
 use Rattle.tko_keys.specs.KeysState.{KeysState, asked_first, asked_last, awaited_servers}
-use Rattle.tko_keys.specs.KeysState.{bytes_held_in}
+use Rattle.tko_keys.specs.KeysState.{bytes_held_in, first_send}
 use Rattle.tko_session.specs.Awaiting.{awaited_in}
 use Rattle.tko_session.specs.Clients.{ClientPhase, ClientState}
 use Rattle.tko_session.specs.Driven.{IsSessionReady, MayGoOn}
@@ -88,6 +88,13 @@ AreKeysReady config (Some keys) at = (at ≡ work.HandedOver) × AreSettled conf
 pub record IsAnsweringReady (config : Configuration) (it : Answering) : Type 0 where
   pub session : IsSessionReady config it.session
   pub keys : AreKeysReady config it.keys it.session.work
+
+-- the keys of a request can take what comes of the first request for keys that is under way to this
+-- server: there is one
+pub record AreReadyForOutcome (config : Configuration) (server : ℕ) (keys : KeysState) : Type 0
+  where
+    pub ready : AreSettled config keys
+    pub awaits : IsSome (first_send server keys.sends)
 
 -- the session is at no send, and no request was handed over
 abbrev pub IsIdleWith : Option KeysState → Work → Type 0

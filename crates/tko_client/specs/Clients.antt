@@ -88,15 +88,15 @@ IsAsked Short it = ⊥
 
 -- how a client stands that took all of its input: its replies are to be written first, or it needs
 -- more, and few of its replies wait if no request of it is being asked for
-abbrev pub IsToRead : ClientStanding → Answering → Type 0
-IsToRead Going it = ⊥
-IsToRead Waits it = ⊥
-IsToRead Full it = outgoing it.session ≢ []
-IsToRead NeedsInput it = IsClientIdle it → HasFewReplies it
-IsToRead CourseEnded it = ⊥
-IsToRead Over it = ⊥
-IsToRead TooLong it = ⊥
-IsToRead Short it = ⊥
+abbrev pub HasTakenInput : ClientStanding → Answering → Type 0
+HasTakenInput Going it = ⊥
+HasTakenInput Waits it = ⊥
+HasTakenInput Full it = outgoing it.session ≢ []
+HasTakenInput NeedsInput it = IsClientIdle it → HasFewReplies it
+HasTakenInput CourseEnded it = ⊥
+HasTakenInput Over it = ⊥
+HasTakenInput TooLong it = ⊥
+HasTakenInput Short it = ⊥
 
 -- the client of a worker that this is
 abbrev pub client_of : EventClient → ClientState

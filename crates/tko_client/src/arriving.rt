@@ -5,7 +5,7 @@ ghost use Rattle.tko_links.specs.Links.{is_sent, most_sends};
 ghost use Rattle.tko_pools.specs.Configs.{Configuration};
 ghost use Rattle.tko_keys.specs.KeysDriven.{AreUnderWay};
 ghost use Rattle.tko_keys.specs.KeysState.{first_send, keys_first};
-ghost use Rattle.tko_client.specs.Answerings.{AreSettled};
+ghost use Rattle.tko_client.specs.Answerings.{AreReadyForOutcome};
 ghost use Rattle.tko_client.specs.Counts.{AreSendsCounted};
 ghost use Rattle.tko_client.specs.Keys.{HasStoppedAs, HaveActedOnOutcome};
 ghost use Rattle.tko_client.specs.Steps.{HasStayed, client_ghosts};
@@ -32,8 +32,7 @@ pub(crate) fn take_keys<R: IoRuntime, H: Health, T: Trails, C>(
 )
     requires servers { H.servers parts.old.backend.health ≡ length parts.old.config.addresses }
     requires links { server < length parts.old.backend.links }
-    requires ready { AreSettled parts.old.config keys.old }
-    requires awaits { IsSome (first_send server keys.old.sends) }
+    requires ready { AreReadyForOutcome parts.old.config server keys.old }
     requires sent { is_sent outcome ≡ true }
     ensures taken { HaveActedOnOutcome (client_ghosts H.Health T.Trails) false server (Ok outcome)
         (keys.old, parts.old) (keys.new, parts.new) }
@@ -71,8 +70,7 @@ pub(crate) fn stop_keys<R: IoRuntime, H: Health, T: Trails, C>(
 )
     requires servers { H.servers parts.old.backend.health ≡ length parts.old.config.addresses }
     requires room { slice_index parts.old.backend.links server ≢ most_sends }
-    requires ready { AreSettled parts.old.config keys.old }
-    requires awaits { IsSome (first_send server keys.old.sends) }
+    requires ready { AreReadyForOutcome parts.old.config server keys.old }
     ensures taken { HaveActedOnOutcome (client_ghosts H.Health T.Trails) unsent server
         (Err (record { sent = false })) (keys.old, parts.old) (keys.new, parts.new) }
     ensures stays { HasStayed H.servers parts.old parts.new }

@@ -3,7 +3,7 @@ ghost use Rattle.std.specs.Prelude.{◌≡◌, IfOk, OnErr, OnOk, length};
 ghost use Rattle.tko_model.specs.Records.{Gains};
 ghost use Rattle.tko_reply.specs.Interactions.{Interacts};
 ghost use Rattle.tko_session.specs.Acts.{recorded_after};
-ghost use Rattle.tko_session.specs.Driven.{IsAwaiting, IsSessionReady, MayGoOn};
+ghost use Rattle.tko_session.specs.Driven.{IsReadyForNext, IsReadyForOutcome};
 ghost use Rattle.tko_client.specs.Steps.{BeganAt, HasStayed, IsLost, IsLostTaking, IsOutcomeTaken};
 ghost use Rattle.tko_client.specs.Steps.{IsSessionLeft, IsStepped, IsUnrecorded, StandsAfter};
 ghost use Rattle.tko_client.specs.Steps.{client_ghosts, phase_of, went_from, went_of};
@@ -49,8 +49,7 @@ pub(crate) fn go_once<R: IoRuntime, H: Health, T: Trails, C>(
     told: &mut usize,
 ) -> Result<Went, NoMemory>
     requires servers { H.servers parts.old.backend.health ≡ length parts.old.config.addresses }
-    requires ready { IsSessionReady parts.old.config session.old }
-    requires may { MayGoOn session.old.work }
+    requires ready { IsReadyForNext parts.old.config session.old }
     ensures ok { IfOk result (λ went. IsStepped (client_ghosts H.Health T.Trails) (phase_of went)
         (session.old, parts.old) (session.new, parts.new)) }
     ensures stands { IfOk result (λ went. StandsAfter went session.new) }
@@ -74,8 +73,7 @@ pub(crate) fn take_once<R: IoRuntime, H: Health, T: Trails, C>(
     outcome: Outcome,
 ) -> Result<Went, NoMemory>
     requires servers { H.servers parts.old.backend.health ≡ length parts.old.config.addresses }
-    requires ready { IsSessionReady parts.old.config session.old }
-    requires awaits { IsAwaiting session.old.work }
+    requires ready { IsReadyForOutcome parts.old.config session.old }
     ensures ok { IfOk result (λ went. IsOutcomeTaken (client_ghosts H.Health T.Trails) outcome
         (phase_of went) (session.old, parts.old) (session.new, parts.new)) }
     ensures stands { IfOk result (λ went. StandsAfter went session.new) }

@@ -2,6 +2,7 @@
 ghost use Rattle.std.specs.Prelude.{◌≡◌, []};
 ghost use Rattle.tko_session.specs.Clients.{new_client};
 ghost use Rattle.tko_pools.specs.Configs.{Configuration};
+ghost use Rattle.tko_port.specs.Talks.{taken_more};
 ghost use Rattle.tko_client.specs.Clients.{IsReadyAfter, awaits, client_of};
 
 use crate::Lent;
@@ -142,7 +143,7 @@ impl<'r, R: IoRuntime, H: Health, T: Trails, C> Talking<Lent<'r, R, H, T, C>> fo
 
     fn sent(&mut self, _lent: &mut Lent<'r, R, H, T, C>, count: usize) {
         self.answering.session.sent(count);
-        self.taken = self.taken.saturating_add(count as u64);
+        self.taken = taken_more(self.taken, count);
     }
 
     fn feed(&mut self, _lent: &mut Lent<'r, R, H, T, C>, piece: &[u8]) -> Result<(), NoMemory> {
@@ -185,4 +186,11 @@ impl<'r, R: IoRuntime, H: Health, T: Trails, C> Talking<Lent<'r, R, H, T, C>> fo
     fn request_to(&self, server: usize) -> &Request {
         self.answering.request_to(server)
     }
+}
+
+/// How many bytes of replies were written, with so many more.
+fn taken_more(taken: u64, count: usize) -> u64
+    ensures { result ≡ taken_more taken count }
+{
+    taken.saturating_add(count as u64)
 }

@@ -3,7 +3,7 @@ ghost use Rattle.std.specs.Prelude.{◌≡◌, ◌≢◌, None};
 ghost use Rattle.tko_text.specs.Reading.{Reading};
 ghost use Rattle.tko_port.specs.Talks.{HasReplies};
 ghost use Rattle.tko_session.specs.Outgoing.{outgoing};
-ghost use Rattle.tko_client.specs.Clients.{CourseReading, CourseStands, IsAsked, IsToRead};
+ghost use Rattle.tko_client.specs.Clients.{CourseReading, CourseStands, IsAsked, HasTakenInput};
 ghost use Rattle.tko_client.specs.Clients.{phase_at, stage_of};
 ghost use Rattle.tko_client.specs.Steps.{WentReading, WentStands, phase_of, server_asked_in};
 
@@ -79,7 +79,7 @@ fn course_asking(it: &Answering) -> ClientStanding
 
 /// How a client stands that took all of its input.
 fn course_reading(it: &Answering) -> ClientStanding
-    ensures { IsToRead result it.now }
+    ensures { HasTakenInput result it.now }
 {
     if is_to_write(it) {
         ClientStanding::Full

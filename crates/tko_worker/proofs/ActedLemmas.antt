@@ -66,6 +66,14 @@ pub lines_acted : {L T P : Type 0} (sight : Sight L T) (old new : WorkerState L 
 lines_acted sight old new only =
     acted_same sight (old.mux.roster, old.ends) (new.mux.roster, new.ends) only.roster only.ends
 
+-- one call after another, and then only the lines to the servers change
+pub acted_on_lines : {L T P : Type 0} (sight : Sight L T) (one two three four : WorkerState L T P)
+    → HasActed sight one two → HasActed sight two three → OnlyLinesChange three four
+    → HasActed sight one four
+acted_on_lines sight one two three four first second only =
+    worker_acted_on sight one three four (worker_acted_on sight one two three first second)
+    (lines_acted sight three four only)
+
 -- where memory ran out for a request, its session is called once more
 send_acted : {L T P : Type 0} (sight : Sight L T) (asks_for : Guest L T → Option Request)
     (mid new : MuxState (Guest L T) (SharedParts P)) (ends : EndCounts) (number due : ℕ)

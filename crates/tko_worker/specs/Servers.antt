@@ -72,18 +72,18 @@ pub record IsServerDone {S P : Type 0} (waits_for : WaitsFor S) (mux : MuxState 
   pub drained : IsDrained waits_for mux server port
   pub time : is_first_late (first_at (line_at mux server)) now ≡ false
 
--- what reading once from a server came to: bytes came, or its connection was shut; or nothing can be
--- read, and nothing changed. No client changes by it
+-- what reading once from a server came to: bytes came, or its connection was shut; or nothing can
+-- be read, and nothing changed. No client changes by it
 pub record IsReadOnce {L T P : Type 0} (server now : ℕ) (old : WorkerState L T P)
     (was is : Option PortState) (came : Bool) (new : WorkerState L T P) : Type 0 where
   pub read : OnTrue came (HasReadOn server now old.mux.lines was new.mux.lines)
   pub none : OnFalse came (IsNothingRead old server is new)
   pub clients : OnlyLinesChange old new
 
--- the connection to a server was shut if its first response was late; else nothing changed. No client
--- changes by it
-pub record IsShutIfLate {L T P : Type 0} (server now : ℕ) (old : WorkerState L T P) (was is : Peer L)
-    (late : Bool) (new : WorkerState L T P) : Type 0 where
+-- the connection to a server was shut if its first response was late; else nothing changed. No
+-- client changes by it
+pub record IsShutIfLate {L T P : Type 0} (server now : ℕ) (old : WorkerState L T P)
+    (was is : Peer L) (late : Bool) (new : WorkerState L T P) : Type 0 where
   pub shut : OnTrue late (HasExpired server now old.mux.lines new.mux.lines)
   pub time : OnFalse late (is_first_late (first_at (line_at old.mux server)) now ≡ false)
   pub kept : OnFalse late ((new ≡ old) × (is ≡ was))

@@ -3,7 +3,7 @@ use Rattle.tko_client.proofs.arriving.stop_keys.Goals as goal
 
 pub go_on_all-requires-clause-ready : goal.go_on_all-requires-clause-ready
 go_on_all-requires-clause-ready g c =
-    c.stop_send.ensures.ready c.args.parts.now.config c.requires.ready.under_way
+    c.stop_send.ensures.ready c.args.parts.now.config c.requires.ready.ready.under_way
 
 pub returns-clause-taken : goal.returns-clause-taken
 returns-clause-taken g c =

@@ -9,9 +9,10 @@ use Rattle.tko_client.proofs.calls.take_once.Goals as goal
 
 pub observe-requires : goal.observe-requires
 observe-requires g c =
-    let out = awaiting_at c.args.session.now.work c.requires.awaits in
+    let out = awaiting_at c.args.session.now.work c.requires.ready.awaiting in
     let on = c.in-Ok.ensures.ok in
-    let sent = out_at c.args.parts.now.config c.args.session.now out.0 out.1 c.requires.ready in
+    let sent = out_at c.args.parts.now.config c.args.session.now out.0 out.1
+    c.requires.ready.ready in
     record {
       began = (took_leaves c.args.parts.now.config c.args.session.now c.in-Ok.step
           c.answered.new.self out.0 c.args.outcome (map Told on.items) sent (on.is out.0 out.1)).1;
@@ -19,7 +20,7 @@ observe-requires g c =
 
 pub returns-in-Ok-clause-ok : goal.returns-in-Ok-clause-ok
 returns-in-Ok-clause-ok g c =
-    let out = awaiting_at c.args.session.now.work c.requires.awaits in
+    let out = awaiting_at c.args.session.now.work c.requires.ready.awaiting in
     let on = c.in-Ok.ensures.ok in
     let told = c.observe.ensures in
     took (client_ghosts {C = g.row.C.Denot} g.H.Health g.T.Trails) c.args.session.now
@@ -29,7 +30,7 @@ returns-in-Ok-clause-ok g c =
 
 pub returns-in-Ok-clause-err : goal.returns-in-Ok-clause-err
 returns-in-Ok-clause-err g c =
-    let out = awaiting_at c.args.session.now.work c.requires.awaits in
+    let out = awaiting_at c.args.session.now.work c.requires.ready.awaiting in
     let on = c.in-Ok.ensures.ok in
     took_unrecorded (client_ghosts {C = g.row.C.Denot} g.H.Health g.T.Trails) c.args.session.now
     c.answered.new.self c.observe.new.session c.args.parts.now c.observe.new.parts
@@ -38,7 +39,7 @@ returns-in-Ok-clause-err g c =
 
 pub returns-in-Err-clause-err : goal.returns-in-Err-clause-err
 returns-in-Err-clause-err g c =
-    let out = awaiting_at c.args.session.now.work c.requires.awaits in
+    let out = awaiting_at c.args.session.now.work c.requires.ready.awaiting in
     let on = c.in-Err.ensures.err in
     took_lost (client_ghosts {C = g.row.C.Denot} g.H.Health g.T.Trails) c.args.session.now
     c.answered.new.self c.args.parts.now c.observe_drop.new.parts c.answered.new.health on.items
@@ -46,10 +47,11 @@ returns-in-Err-clause-err g c =
 
 pub returns-in-Ok-clause-stands : goal.returns-in-Ok-clause-stands
 returns-in-Ok-clause-stands g c =
-    let out = awaiting_at c.args.session.now.work c.requires.awaits in
+    let out = awaiting_at c.args.session.now.work c.requires.ready.awaiting in
     let on = c.in-Ok.ensures.ok in
     let told = c.observe.ensures in
-    let sent = out_at c.args.parts.now.config c.args.session.now out.0 out.1 c.requires.ready in
+    let sent = out_at c.args.parts.now.config c.args.session.now out.0 out.1
+    c.requires.ready.ready in
     let calls = map Told on.items in
     stands_on c.in-Ok.step c.answered.new.self c.observe.new.session c.observe.result
     (took_leaves c.args.parts.now.config c.args.session.now c.in-Ok.step c.answered.new.self out.0

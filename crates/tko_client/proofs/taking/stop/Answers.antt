@@ -24,10 +24,12 @@ stop_keys-requires g c =
           (sym same) c.requires.servers;
       room = subst (λ p. slice_index p.backend.links c.args.server ≢ most_sends)
           (sym same) c.tell_unsent.ensures.room;
-      ready = subst (λ p. AreSettled p.config c.get_mut.result.now) (sym same)
-          (settled c.requires.ready is);
-      awaits = keys_awaits c.args.it.now c.get_mut.result.now c.args.server
-          is c.requires.awaits;
+      ready = record {
+        ready = subst (λ p. AreSettled p.config c.get_mut.result.now) (sym same)
+            (settled c.requires.ready is);
+        awaits = keys_awaits c.args.it.now c.get_mut.result.now c.args.server
+            is c.requires.awaits;
+      };
     }
 
 pub returns-in-Some-clause-taken : goal.returns-in-Some-clause-taken

@@ -18,9 +18,11 @@ take_keys-requires g c = let is = c.in-Some.is ∙ ap Some (sym c.get_mut.ensure
   links = subst (λ n. c.args.server < n) (sym c.requires.links)
       (awaited_within c.args.parts.now.config c.args.it.now c.args.server c.requires.ready
       c.requires.awaits);
-  ready = settled c.requires.ready is;
-  awaits = keys_awaits c.args.it.now c.get_mut.result.now c.args.server
-      is c.requires.awaits;
+  ready = record {
+    ready = settled c.requires.ready is;
+    awaits = keys_awaits c.args.it.now c.get_mut.result.now c.args.server
+        is c.requires.awaits;
+  };
   sent = c.requires.sent;
 }
 

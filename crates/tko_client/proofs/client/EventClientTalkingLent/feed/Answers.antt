@@ -14,8 +14,8 @@ returns-in-Ok-clause-does g c = (
   gains_none c.args._lent.now.parts,
 )
 
-pub returns-in-Ok-clause-fed : goal.returns-in-Ok-clause-fed
-returns-in-Ok-clause-fed g c = λ came went was.
+pub returns-in-Ok-clause-ready : goal.returns-in-Ok-clause-ready
+returns-in-Ok-clause-ready g c = λ came went was.
     fed_ready (client_ghosts {C = g.row.C.Denot} g.H.Health g.T.Trails) c.args.piece.now
     c.args.self.now _ c.args._lent.now.parts c.args._lent.now.parts came went
     (no_change {servers = g.H.Health.servers}) (search rules) (returns-in-Ok-clause-does g c) was

@@ -14,12 +14,16 @@ returns-in-Short-course-clause-ready g c = λ came went was.
     (record { answering = halt.left.ready; stands = halt.left.stands; reading = halt.left.reading })
     (search rules) refl refl was
 
-pub returns-in_default-clause-asks : goal.returns-in_default-clause-asks
-returns-in_default-clause-asks g c = record {
-  asks = c.go_on-halt.ensures.asks;
-  request = c.go_on-halt.ensures.left.request;
-  stage = stage_awaits c.go_on-halt.result.course c.go_on-halt.new.it
-      c.go_on-halt.ensures.left.stands;
+pub returns-in_default-clause-goes : goal.returns-in_default-clause-goes
+returns-in_default-clause-goes g c = record {
+  asks = record {
+    asks = c.go_on-halt.ensures.asks;
+    request = c.go_on-halt.ensures.left.request;
+    stage = stage_awaits c.go_on-halt.result.course c.go_on-halt.new.it
+        c.go_on-halt.ensures.left.stands;
+  };
+  taken = refl;
+  replies = c.go_on-halt.ensures.replies;
 }
 
 pub returns-in_default-clause-ready : goal.returns-in_default-clause-ready

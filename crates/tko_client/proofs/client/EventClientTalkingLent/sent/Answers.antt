@@ -1,4 +1,4 @@
-use Rattle.std.proofs.Common.{ap, refl}
+use Rattle.std.proofs.Common.{ap, refl, rules}
 use Rattle.tko_model.proofs.RecordLemmas.{gains_none}
 use Rattle.tko_client.specs.Clients.{phase_at}
 use Rattle.tko_client.specs.Staying.{no_change}
@@ -15,10 +15,13 @@ returns-clause-does g c = (
   gains_none c.args._lent.now.parts,
 )
 
-pub returns-clause-output : goal.returns-clause-output
-returns-clause-output g c =
-    sent_left c.args.self.now.answering.session c.sent.new.self c.args.count c.requires.within
-    c.sent.ensures.sent
+pub returns-clause-sends : goal.returns-clause-sends
+returns-clause-sends g c = record {
+  output = sent_left c.args.self.now.answering.session c.sent.new.self c.args.count
+      c.requires.within c.sent.ensures.sent;
+  taken = search rules;
+  here = search rules;
+}
 
 pub returns-clause-ready : goal.returns-clause-ready
 returns-clause-ready g c = λ came went was.

@@ -1,5 +1,5 @@
 use Rattle.std.proofs.Common.{arith}
-use Rattle.tko_worker.proofs.ActedLemmas.{acted_on, lines_acted}
+use Rattle.tko_worker.proofs.ActedLemmas.{acted_on_lines, worker_acted_on}
 use Rattle.tko_worker.proofs.TakenLemmas.{drained_by}
 use Rattle.tko_worker.proofs.worker.Worker.pull.Goals as goal
 
@@ -11,28 +11,16 @@ returns-then-not-read-clause-drained g c =
 
 pub returns-then-not-take_all-clause-acts : goal.returns-then-not-take_all-clause-acts
 returns-then-not-take_all-clause-acts g c = record {
-  acted = acted_on (g.T.Talking.awaited, g.T.Talking.talk, g.L.Port.port) _ (
-    c.loop.self.mux.roster,
-    c.loop.self.ends,
-  )
-      (c.take_all.new.self.mux.roster, c.take_all.new.self.ends) c.loop.invariant.acted
-      c.if-not-take_all.ensures.acts.acted;
+  acted = worker_acted_on (g.T.Talking.awaited, g.T.Talking.talk, g.L.Port.port) c.args.self.now
+      c.loop.self c.take_all.new.self c.loop.invariant.acted c.if-not-take_all.ensures.acts.acted;
   order = c.if-not-take_all.ensures.acts.order;
 }
 
 pub returns-then-not-read-clause-acts : goal.returns-then-not-read-clause-acts
 returns-then-not-read-clause-acts g c = record {
-  acted = acted_on (g.T.Talking.awaited, g.T.Talking.talk, g.L.Port.port) _
-      (c.take_all.new.self.mux.roster, c.take_all.new.self.ends)
-      (c.read.new.self.mux.roster, c.read.new.self.ends)
-      (acted_on (g.T.Talking.awaited, g.T.Talking.talk, g.L.Port.port) _ (
-        c.loop.self.mux.roster,
-        c.loop.self.ends,
-      )
-      (c.take_all.new.self.mux.roster, c.take_all.new.self.ends) c.loop.invariant.acted
-      c.if-not-take_all.ensures.acts.acted)
-      (lines_acted (g.T.Talking.awaited, g.T.Talking.talk, g.L.Port.port) c.take_all.new.self
-      c.read.new.self c.if-not-read.ensures.read.clients);
+  acted = acted_on_lines (g.T.Talking.awaited, g.T.Talking.talk, g.L.Port.port) c.args.self.now
+      c.loop.self c.take_all.new.self c.read.new.self c.loop.invariant.acted
+      c.if-not-take_all.ensures.acts.acted c.if-not-read.ensures.read.clients;
   order = c.if-not-read.ensures.order;
 }
 
@@ -41,15 +29,7 @@ loop-preserved g c = record {
   order = c.if-not-read.ensures.order;
   held = c.if-not-read.ensures.held;
   room = omega (arith, c.read.auto.buffer, c.loop.invariant.room);
-  acted = acted_on (g.T.Talking.awaited, g.T.Talking.talk, g.L.Port.port) _
-      (c.take_all.new.self.mux.roster, c.take_all.new.self.ends)
-      (c.read.new.self.mux.roster, c.read.new.self.ends)
-      (acted_on (g.T.Talking.awaited, g.T.Talking.talk, g.L.Port.port) _ (
-        c.loop.self.mux.roster,
-        c.loop.self.ends,
-      )
-      (c.take_all.new.self.mux.roster, c.take_all.new.self.ends) c.loop.invariant.acted
-      c.if-not-take_all.ensures.acts.acted)
-      (lines_acted (g.T.Talking.awaited, g.T.Talking.talk, g.L.Port.port) c.take_all.new.self
-      c.read.new.self c.if-not-read.ensures.read.clients);
+  acted = acted_on_lines (g.T.Talking.awaited, g.T.Talking.talk, g.L.Port.port) c.args.self.now
+      c.loop.self c.take_all.new.self c.read.new.self c.loop.invariant.acted
+      c.if-not-take_all.ensures.acts.acted c.if-not-read.ensures.read.clients;
 }
