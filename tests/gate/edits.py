@@ -2,8 +2,10 @@
 
 Edits in the bodies of different functions change no contract, so one check of these functions and of what they call
 judges each edit by itself. An edit of such a batch counts as refused only if a clause in its own function refuses it,
-and only if no function without an edit is refused. What a batch did not refuse is tried in a second check without the
-others. Every other edit is tried alone, by the kit's own procedure, and so is each that these did not refuse."""
+and only if no function without an edit is refused. What one check of a batch did not judge is tried in the next, without
+what it judged, as long as each judges some: of a function that calls another edited one a check says that alone. Every
+other edit is tried alone, by the kit's own procedure, and so is each that these did not refuse."""
+import functools
 import os
 import re
 import shutil
@@ -25,8 +27,8 @@ ONLY = re.compile(r"only=(\d+) proved=(\d+)")
 class Tries:
     """What this run has found out of the edits."""
 
-    def __init__(self, rt, proved):
-        self.rt = rt
+    def __init__(self, rt, proved, kept=lambda: None):
+        self.rt, self.kept = rt, kept
         # The folder of a crate's proof.
         self.proved = proved
         # For each edit what its try came to, and what to say, as the kit's `must_fail` returns it.
@@ -37,10 +39,32 @@ class Tries:
         rt.checked = self.recorded
         rt.rtlib.guarded = lambda: [*guarded(), *getattr(self.own, "words", [])]
 
+    @functools.cached_property
+    def keeping(self):
+        """What is kept of earlier runs, and for later ones, where the run has that."""
+        return self.kept()
+
     def recorded(self, *given):
         """The kit's `checked`, which also leaves what it printed to this thread."""
         self.own.ran = self.checked(*given)
         return self.own.ran
+
+    def without_kept(self, crate, edits):
+        """Returns the edits of which no verdict is kept."""
+        for edit in edits:
+            text = self.keeping.of_edit(crate, edit)
+            if text:
+                self.keeping.taken["edits"] += 1
+                self.verdicts[edit] = kit.refused(self.rt), text
+        return [it for it in edits if it not in self.verdicts]
+
+    def settle(self, crate, verdicts):
+        """Takes these verdicts, and keeps those on edits that were refused."""
+        self.verdicts.update(verdicts)
+        for edit, (kind, text) in verdicts.items() if self.keeping else ():
+            self.keeping.made["edits"] += 1
+            if kit.is_refused(self.rt, kind):
+                self.keeping.keep_edit(crate, edit, text)
 
     def task(self, crate, batch, proof):
         """A task of the kit's lanes that tries these edits."""
@@ -54,12 +78,12 @@ class Tries:
     def try_batch(self, crate, batch):
         began = time.time()
         is_in_bodies = all(changed_function(it, crate.folder) for it in batch)
-        judged = self.together(crate, batch) if is_in_bodies else {}
-        left = [it for it in batch if it not in judged]
-        # (of a function that calls another edited one a check may say that alone)
-        judged |= self.together(crate, left) if judged and left else {}
-        self.verdicts.update(judged)
-        self.verdicts.update({edit: self.alone(crate, edit) for edit in batch if edit not in judged})
+        judged, left = {}, batch if is_in_bodies else []
+        while left and (found := self.together(crate, left)):
+            judged |= found
+            left = [it for it in left if it not in found]
+        self.settle(crate, judged)
+        self.settle(crate, {edit: self.alone(crate, edit) for edit in batch if edit not in judged})
         self.rt.say(f"{crate.name}: {len(batch)} must-fail edits, {len(judged)} of them judged with others, "
                     f"{time.time() - began:.0f} s")
 

@@ -13,8 +13,8 @@ WRITTEN_FOR = ("rattle-kit-13b logic dac8208d650f15bf", "rattle-kit-13f logic da
 
 
 def load():
-    """Returns the kit's `rt` as a module, or ends the gate where it is another kit than the one it was written for:
-    `./test` then runs the kit's own gate."""
+    """Returns the kit's `rt` as a module, or ends the gate where it is another kit than those that it was written for:
+    `./test` then runs public commands of `rt` alone."""
     found = shutil.which("rt") or stop("there is no rt on the PATH")
     path = os.path.realpath(found)
     loader = importlib.machinery.SourceFileLoader("rt_main", path)
@@ -23,7 +23,7 @@ def load():
     with open(f"{rt.KIT}/KIT-ID", encoding="utf-8") as it:
         kit = it.read().strip()
     if kit not in WRITTEN_FOR:
-        stop(f"it was written for {' and '.join(WRITTEN_FOR)}, and this is {kit}: the kit's own gate, `rt ci`, serves "
+        stop(f"it was written for {' and '.join(WRITTEN_FOR)}, and this is {kit}: ./test runs public commands of rt alone "
              "until tests/gate/once.py was read against this kit and tests/gate/kit.py changed")
     stamps.install(rt.rtlib.Crate)
     return rt

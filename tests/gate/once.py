@@ -1,27 +1,30 @@
-"""The kit's `rt ci` with eight changes, most of them about work that `rt ci` does more than once.
+"""The kit's `rt ci`, each thing proved once.
 
-1. Each library is proved once, from nothing, into a folder that this run makes and removes. Its edits are
+1. Each library is proved once, from nothing, into a folder that this run makes and removes. Its tests and its edits are
    checked over what that proof left there. `rt ci` proves the library for each of the three.
-2. Must-fail edits are tried many in one check (edits.py), and the checks of one crate's edits side by side.
-3. An edit passes only if a clause refuses it, and the gate says which.
-4. Nothing is taken from earlier runs on this machine, and nothing is left to later ones.
-5. The tests of crates are run and not proved (tried_tests.py).
-6. A line says how far the run is as each check ends (progress.py), and memory is reckoned by what checks were seen to
+2. What passed is kept for later runs, under a key that covers all that it rests on (keeping.py, keys.py, store.py).
+3. Must-fail edits are tried many in one check (edits.py), and the checks of one crate's edits side by side.
+4. An edit passes only if a clause refuses it, and the gate says which.
+5. A line says how far the run is as each check ends (progress.py), and memory is reckoned by what checks were seen to
    hold (costs.py).
-7. The sources of a crate are hashed once for each look at them (stamps.py).
-8. The check of an edit offers no proof files (offers.py).
+6. The sources of a crate are hashed once for each look at them (stamps.py).
+7. The check of an edit offers no proof files (offers.py).
 
 Everything else is the kit's own code: the rules on the text, the handles, the last line of each check, the runs."""
 import os
 import re
 import shutil
 import tempfile
+import threading
+from collections import Counter
 
 import costs
+import keeping
 import kit
 import progress
-import tried_tests
+from late import Late
 from edits import Tries, batches
+from keys import Keys
 
 KEPT_WORK = "( incremental=trusted)?"
 
@@ -31,34 +34,48 @@ OVER_PROOF = 0.6
 OVER_SEEN = 1.2
 
 
-def install(rt, with_edits):
+def said(text):
+    print(text, flush=True)
+
+
+def install(rt, is_fresh):
     """Replaces the parts of the kit's `rt` that the changes above are about. Returns the folder of the proofs, which is
     removed when it is closed."""
     room = tempfile.TemporaryDirectory(prefix="gate-proved-")
     spent = costs.install(rt, room.name)
     accept_kept_work(rt)
-    rt.Crate = crate_proved_once(rt, room.name)
-    if not with_edits:
-        rt.edits_of = lambda crate: ([], [])
-    tried = Tries(rt, lambda crate: proved(room.name, crate))
+    late = Late()
+    rt.Crate = crate_proved_once(rt, room.name, late)
+    # (when it is first asked for, the kit has looked at the tree)
+    kept = lambda: of_run(rt, room.name, is_fresh, late)
+    tried = Tries(rt, lambda crate: proved(room.name, crate), kept)
     if kit.has_store(rt):
         rt.Kept = kept_by_no_run(rt)
         rt.add_edits = lambda tasks, crate, edits, *others: add_edits(rt, tried, tasks, crate, edits)
     else:
         rt.must_fail_all = lambda crate, edits, flags: [tried.verdicts[it] for it in edits]
-    in_lanes, say = rt.in_lanes, rt.say
-    rt.say = lambda text, out=None: say(tried_tests.said(text), out)
+    in_lanes = rt.in_lanes
 
     def proved_once(tasks):
         known = costs.usual()
         tasks = dict(rearranged(rt, tasks, tried, known))
-        given = in_lanes(progress.told(tasks, known, rt.processors(), lambda text: print(text, flush=True)))
-        print("Processor minutes of the checks, and what one of their processes held at most:", *costs.report(spent, known),
-              sep="\n", flush=True)
+        tasks = without_what_is_done(tasks, lambda name: tried.proved(tried.keeping.known.crates[name]))
+        given = in_lanes(progress.told(tasks, known, rt.processors(), said, tried.keeping.has))
+        if not tried.keeping.taken:
+            said("Processor minutes of the checks, and what one of their processes held at most:")
+            print(*costs.report(spent, known), sep="\n", flush=True)
+        said("\n".join([tried.keeping.told(), *[late.told()] * bool(late.names)]))
+        tried.keeping.prune()
         return given
 
     rt.in_lanes = proved_once
     return room
+
+
+def of_run(rt, room, is_fresh, late):
+    """What is kept of earlier runs, for this one."""
+    kept, crates = keeping.opened(said), rt.rtlib.crates_below(os.getcwd())
+    return keeping.Keeping(Keys(os.getcwd(), rt.KIT, crates), room, kept, said, is_fresh, late.names)
 
 
 def accept_kept_work(rt):
@@ -85,24 +102,37 @@ def kept_by_no_run(rt):
     return Kept
 
 
-def crate_proved_once(rt, room):
+def crate_proved_once(rt, room, late):
     class Crate(rt.Crate):
         """A crate whose proof is kept in a folder of this run, for its tests and its edits."""
 
-        keeps_proof = False
+        # The folder of the work that a check begins with and leaves.
+        work = None
 
         def ci(self, flags, tests):
+            self.work = None if self.is_program and not tests else f"{room}/{self.name}{'.tests' * tests}"
             if tests:
-                return tried_tests.run(self, costs.file_in(room))
-            self.keeps_proof = not self.is_program
+                return late.run_tests(self) if late else self.tests_over(proved(room, self), flags)
             status = super().ci(flags, tests)
-            if self.keeps_proof and not status:
-                shutil.copytree(kept(room, self), proved(room, self), copy_function=os.link)
+            if self.work and not status:
+                os.rename(self.work, proved(room, self))
+            return status
+
+        def tests_over(self, work, flags):
+            """Proves the tests over the crate's proof, and runs them. The kit's gate would run them at its end."""
+            if os.path.isdir(work):
+                shutil.copytree(work, self.work, copy_function=os.link)
+            made = f"{self.folder}/out/{self.name}_tests"
+            status = super().ci(flags, True)
+            if not status and os.path.isfile(made):
+                status = 0 if rt.run(self, True) else 1
+                os.remove(made)
+            shutil.rmtree(self.work, ignore_errors=True)
             return status
 
         def words(self, flags, **how):
             words = super().words(flags, **how)
-            return words + (["--incremental", kept(room, self)] if self.keeps_proof else [])
+            return words + (["--incremental", self.work] if self.work else [])
 
         def build_rlib(self, flags, anew):
             # (rattle keeps no statements over kept work)
@@ -112,32 +142,50 @@ def crate_proved_once(rt, room):
     return Crate
 
 
-def kept(room, crate):
-    """The folder where a crate's checks of this run keep their work."""
-    return f"{room}/{crate.name}"
+def without_what_is_done(tasks, proved):
+    """Has the work of each crate's proof removed after the last of its tasks: that of all crates together is some 15 GB."""
+    left, lock = Counter(name for name, *_ in tasks), threading.Lock()
+
+    def told(name, call):
+        def run(given, jobs):
+            try:
+                return call(given, jobs)
+            finally:
+                with lock:
+                    left[name] -= 1
+                if not left[name]:
+                    shutil.rmtree(proved(name), ignore_errors=True)
+
+        return run
+
+    return {key: (*rest, told(key[0], call)) for key, (*rest, call) in tasks.items()}
 
 
 def proved(room, crate):
-    """What the crate's proof left there, before its tests were checked. rattle replaces files and writes into none."""
+    """What the crate's proof left. rattle replaces files and writes into none."""
     return f"{room}/{crate.name}.proved"
 
 
 def rearranged(rt, tasks, tried, known):
-    """Has the tests wait for no proof, and gives the proofs on the longest chain two jobs at least. Where the kit has one
-    task for all edits of a crate, each check of them becomes a task."""
-    crates = {it.name: it for it in rt.rtlib.crates_below(os.getcwd())}
+    """Leaves out the checks whose verdict is kept, has tests wait for their crate's proof, and gives the proofs on the longest
+    chain two jobs at least. Where the kit has one task for all edits of a crate, each check of them becomes a task."""
+    crates, kept = tried.keeping.known.crates, tried.keeping
     chain = costs.longest_chain(crates.values(), known) if rt.processors() >= 4 else ()
     for key, (waits, lines, needs, call) in tasks.items():
         name, what = key[:2]
+        crate = crates[name]
         if what == "tests":
-            yield key, (waits, lines, tried_tests.NEEDS, call)
+            # (with no lines, so that they come last)
+            yield key, ([*waits, (name, "proof")], 0, held(known, name, OVER_PROOF * needs), kept.tests(crate, call))
         elif what == "edits" and not kit.has_store(rt):
-            tries = tries_of(rt, tried, crates[name], rt.edits_of(crates[name])[0])
+            tries = tries_of(rt, tried, crate, rt.edits_of(crate)[0])
             yield from tries.items()
             # (what is left to this task is to say what came of them)
             yield key, ([*waits, *tries], 0, 0, call)
         elif what == "proof" and name in chain:
-            yield key, (waits, lines, held(known, name, needs, processes=2), with_two_jobs(call))
+            yield key, (waits, lines, held(known, name, needs, processes=2), kept.proof(crate, with_two_jobs(call)))
+        elif what == "proof":
+            yield key, (waits, lines, held(known, name, needs), kept.proof(crate, call))
         else:
             yield key, (waits, lines, held(known, name, needs), call)
 
@@ -153,10 +201,11 @@ def with_two_jobs(call):
 
 
 def tries_of(rt, tried, crate, edits):
-    """Returns a task for each check of these edits."""
+    """Returns a task for each check of those of these edits whose verdict is not kept."""
     proof, lines, needs = (crate.name, "proof"), crate.count(rb"\n"), held(costs.usual(), crate.name, OVER_PROOF * rt.need(crate))
-    each = enumerate(batches(rt, crate, edits))
-    return {(crate.name, "edits", at): ([proof], lines, needs, tried.task(crate, batch, proof)) for at, batch in each}
+    each = enumerate(batches(rt, crate, tried.without_kept(crate, edits)))
+    call = lambda batch: tried.keeping.edits(crate, tried.task(crate, batch, proof))
+    return {(crate.name, "edits", at): ([proof], lines, needs, call(batch)) for at, batch in each}
 
 
 def add_edits(rt, tried, tasks, crate, edits):

@@ -1,5 +1,5 @@
 """How far a run of the gate is: a line as each check ends, with the share of the usual work that is done and about how
-long the rest takes. `python3 progress.py` prints what a run would say."""
+long the rest takes."""
 import threading
 import time
 
@@ -11,10 +11,11 @@ FEW = 0.1
 NOTHING = 1
 
 
-def weights(keys, known):
-    """Returns the usual processor minutes of each task. The checks of one crate's edits share those of its edits."""
+def weights(keys, known, is_kept):
+    """Returns the usual processor minutes of each task, of which those with a kept verdict take none. The checks of one
+    crate's edits share those of its edits."""
     kinds = [key[:2] for key in keys]
-    usual = {key: costs.minutes_of(known, *key[:2]) if key[1] in costs.WHAT else 0.0 for key in keys}
+    usual = {key: 0.0 if is_kept(*key[:2]) else costs.minutes_of(known, *key[:2]) for key in keys}
     return {key: minutes / kinds.count(key[:2]) for key, minutes in usual.items()}
 
 
@@ -25,14 +26,14 @@ def time_text(seconds):
 class Progress:
     """What of a run's work is done."""
 
-    def __init__(self, keys, known, processors, say, now=time.monotonic):
-        self.weights, self.processors, self.say, self.now = weights(keys, known), processors, say, now
+    def __init__(self, keys, known, processors, say, is_kept, now=time.monotonic):
+        self.weights, self.processors, self.say, self.now = weights(keys, known, is_kept), processors, say, now
         self.whole, self.done, self.began = sum(self.weights.values()), 0.0, now()
         self.running, self.lock = set(), threading.Lock()
-        count = {what: sum(key[1] == what for key in keys) for what in costs.WHAT}
-        say(f"gate: {count['proof']} crates are proved, with their tests, and wrong programs are tried in "
-            f"{count['edits']} checks. That usually takes {self.whole:.0f} processor minutes, so about "
-            f"{self.whole / processors:.0f} minutes on {processors} processors")
+        count = {what: sum(key[1] == what and not is_kept(*key[:2]) for key in keys) for what in costs.WHAT}
+        say(f"gate: {count['proof']} crates are to be proved, the tests of {count['tests']} to be proved and run, and wrong "
+            f"programs to be tried in {count['edits']} checks. That usually takes {self.whole:.0f} processor minutes, so "
+            f"about {self.whole / processors:.0f} minutes on {processors} processors")
 
     def left(self):
         """Returns how many seconds are left at the pace of this run, or at the usual one while little is done."""
@@ -59,7 +60,7 @@ class Progress:
         with self.lock:
             self.running.discard(key)
             self.done += self.weights[key]
-            if took >= NOTHING:
+            if took >= NOTHING and self.weights[key]:
                 self.say(self.line(key, took))
 
     def line(self, key, took):
@@ -69,28 +70,7 @@ class Progress:
                 f"left: {key[0]} {key[1]} took {time_text(took)}; running: {beside}")
 
 
-def told(tasks, known, processors, say):
+def told(tasks, known, processors, say, is_kept):
     """Has each of the kit's tasks say when it ends."""
-    progress = Progress(list(tasks), known, processors, say)
+    progress = Progress(list(tasks), known, processors, say, is_kept)
     return {key: (*rest, progress.told(key, call)) for key, (*rest, call) in tasks.items()}
-
-
-def trial():
-    known = {"low": costs.Usual({"proof": 1, "tests": 2, "edits": 7}, 1e9, 10)}
-    keys = [("low", "proof"), ("low", "tests"), ("low", "edits", 0), ("low", "edits", 1), ("new", "proof")]
-    clock, lines = [0.0], []
-
-    def passes(minutes):
-        def call(given, jobs):
-            clock[0] += 60 * minutes
-        return call
-
-    progress = Progress(keys, known, 4, lines.append, lambda: clock[0])
-    for at, key in enumerate(keys):
-        progress.told(key, passes(at + 1))({}, 1)
-    print(*lines, sep="\n")
-    assert "100 % done" in lines[-1] and "about 0 s left" in lines[-1]
-
-
-if __name__ == "__main__":
-    trial()
