@@ -4,6 +4,8 @@ import socket
 import time
 
 HOST = "127.0.0.1"
+# Tests that run side by side may set the seed of `random` alike.
+numbers = random.SystemRandom()
 
 
 def is_open(port):
@@ -16,7 +18,7 @@ def free_port():
     with open("/proc/sys/net/ipv4/ip_local_port_range", encoding="ascii") as file:
         first_outgoing = int(file.read().split()[0])
     while True:
-        port = random.randrange(10000, max(first_outgoing, 20000))
+        port = numbers.randrange(10000, max(first_outgoing, 20000))
         if not is_open(port):
             return port
 

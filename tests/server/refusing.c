@@ -4,6 +4,7 @@
    - REFUSED_READ, REFUSED_WRITE: the reads of standard input, and the writes to standard output, which fail with the
      number REFUSED_ERRNO
    - REFUSED_NODELAY: the settings of TCP_NODELAY, which is the first thing that is set on a client's socket
+   - REFUSED_ACCEPT: the accepts, which fail with the number REFUSED_ERRNO
    With BYTE_BY_BYTE each of these reads and writes moves one byte. */
 #define _GNU_SOURCE
 #include <dlfcn.h>
@@ -18,7 +19,8 @@ static void *(*next_realloc)(void *, size_t);
 static ssize_t (*next_read)(int, void *, size_t);
 static ssize_t (*next_write)(int, const void *, size_t);
 static int (*next_setsockopt)(int, int, int, const void *, socklen_t);
-static long calls_left, reads_left, writes_left, nodelays_left;
+static int (*next_accept)(int, struct sockaddr *, socklen_t *, int);
+static long calls_left, reads_left, writes_left, nodelays_left, accepts_left;
 static int told, fault_number, is_byte_by_byte;
 static const char *from;
 
@@ -32,6 +34,7 @@ __attribute__((constructor)) static void begin(void) {
     reads_left = number_of("REFUSED_READ", 0);
     writes_left = number_of("REFUSED_WRITE", 0);
     nodelays_left = number_of("REFUSED_NODELAY", 0);
+    accepts_left = number_of("REFUSED_ACCEPT", 0);
     told = number_of("REFUSED_TO", -1);
     fault_number = number_of("REFUSED_ERRNO", EIO);
     is_byte_by_byte = number_of("BYTE_BY_BYTE", 0);
@@ -90,4 +93,10 @@ int setsockopt(int file, int level, int name, const void *value, socklen_t size)
     if (level != SOL_TCP || name != TCP_NODELAY)
         return next_setsockopt(file, level, name, value, size);
     return is_refused(&nodelays_left, fault_number) ? -1 : next_setsockopt(file, level, name, value, size);
+}
+
+int accept4(int file, struct sockaddr *address, socklen_t *size, int flags) {
+    if (!next_accept)
+        next_accept = (int (*)(int, struct sockaddr *, socklen_t *, int))dlsym(RTLD_NEXT, "accept4");
+    return is_refused(&accepts_left, fault_number) ? -1 : next_accept(file, address, size, flags);
 }

@@ -1,4 +1,5 @@
-"""One read or one write of `dry` fails or is interrupted, at each place of a row of tests/rows in turn."""
+"""One read or one write of `dry` or `replay` fails or is interrupted, at each place of a row of tests/rows in turn; and
+an accept of `serve` fails."""
 import errno
 import itertools
 import shlex
@@ -12,23 +13,27 @@ from refusing import RefusingTest
 from talk import Client
 
 TESTS = Path(__file__).resolve().parent.parent
-NAMES = ["first_is_marked_second_answers", "cut_answer_is_broken", "expiry_replaced_on_failover",
-         "keys_are_routed_one_by_one", "first_key_without_values_gives_the_reply", "noreply_writes_nothing"]
+NAMES = {"dry.txt": ["first_is_marked_second_answers", "cut_answer_is_broken", "expiry_replaced_on_failover",
+                     "keys_are_routed_one_by_one", "first_key_without_values_gives_the_reply",
+                     "noreply_writes_nothing"],
+         "schedules.txt": ["run_of_an_idle_thread"]}
 
 
 class Row:
-    """A row whose input is one request. The program writes the replies and then, after the end of input, the trails."""
+    """A row whose input is one request, or a schedule. The program writes the replies and then, after the end of input,
+    the trails, or the run."""
 
     def __init__(self, row):
         self.name, self.words, self.data = row.name, shlex.split(row.command)[1:], row.texts["<"]
-        self.replies, trail, rest = row.texts[">"].partition(b"trail ")
-        self.trails = trail + rest
-        self.whole = (0, self.replies + self.trails, b"")
+        output = row.texts[">"]
+        self.replies = output.partition(b"trail ")[0] if "dry" in self.words else b""
+        self.at_end = output.removeprefix(self.replies)
+        self.whole = (0, output, b"")
 
     def ways(self):
         """Ways to read and write: the variables of refusing.c, the pieces that are read and those that are written."""
-        yield {}, [self.data], [text for text in (self.replies, self.trails) if text]
-        yield {"BYTE_BY_BYTE": 1}, single_bytes(self.data), single_bytes(self.replies + self.trails)
+        yield {}, [self.data], [text for text in (self.replies, self.at_end) if text]
+        yield {"BYTE_BY_BYTE": 1}, single_bytes(self.data), single_bytes(self.replies + self.at_end)
 
 
 def single_bytes(data):
@@ -40,8 +45,8 @@ def rows():
     loader = SourceFileLoader("command_line", str(TESTS / "command_line"))
     command_line = module_from_spec(spec_from_loader(loader.name, loader))
     loader.exec_module(command_line)
-    named = {row.name: row for row in command_line.rows_of(TESTS / "rows/dry.txt")}
-    return [Row(named[name]) for name in NAMES]
+    named = lambda file: {row.name: row for row in command_line.rows_of(TESTS / "rows" / file)}
+    return [Row(named(file)[name]) for file, names in NAMES.items() for name in names]
 
 
 class FailingEnds(RefusingTest):
@@ -58,7 +63,7 @@ class FailingEnds(RefusingTest):
         self.assertEqual(list(self.runs(row, call, number, way)), expected, f"{call} of {row.name} {way}")
 
     def test_a_read_that_fails(self):
-        """What was read by then is answered: nothing, where the request is not whole. No trails follow."""
+        """What was read by then is answered: nothing, where the request is not whole. No trails follow, and no run."""
         for row in rows():
             for way, read, _ in row.ways():
                 expected = [(1, b"", b"fault: read\n")] * len(read) + [(1, row.replies, b"fault: read\n")]
@@ -97,3 +102,17 @@ class BrokenClients(RefusingTest):
             with Client(port) as client:
                 self.assertEqual(client.ask(b"version\r\n"), b"VERSION tkoproxy 1\r\n")
             self.assertEqual(process.wait(20), 0)
+
+
+class BrokenListeners(RefusingTest):
+    def test_a_broken_listener_is_a_fault(self):
+        port = free_port()
+        words = serve_words(port, configuration(only=[self.closed()]), {"log": "off"})
+        process, told = self.start_refused(words, {"REFUSED_ACCEPT": 1, "REFUSED_ERRNO": errno.EINVAL})
+        with told, process.stdout, process.stderr:
+            self.addCleanup(stop, process)
+            self.assertEqual(process.stdout.readline(), b"ready\n")
+            with Client(port):
+                self.assertEqual(process.wait(20), 1)
+            self.assertEqual((process.stdout.read(), process.stderr.read().splitlines()[-1]), (b"", b"fault: accept"))
+            self.assertEqual(told.read(1), b"x")

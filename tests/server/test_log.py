@@ -5,12 +5,15 @@ import re
 import struct
 import subprocess
 import termios
+import threading
 
 from parts import ServerTest, configuration, serve_words, start, stop
 from ports import HOST, free_port, is_open, wait_until
 from talk import Client
 
 STAMP = re.compile(r"^\d{4}-\d\d-\d\dT\d\d:\d\d:\d\d\.\d{3}Z ")
+# For so many the log has room.
+EVENTS = 4096
 
 
 def without_count(line):
@@ -74,6 +77,17 @@ class Log(ServerTest):
             f"released {name} mark=up worker=0 outcome=none",
             "ended"])
 
+    def test_what_came_of_a_send_is_told_before_the_next_one_is_answered(self):
+        near, is_told = self.closed(), threading.Event()
+        far = self.fake(lambda *_: b"END\r\n" if is_told.wait(20) else b"")
+        proxy = self.proxy(configuration(near=[near], far=[far]), threads=1, timeout=60000)
+        with proxy.client() as client:
+            client.send(b"get a\r\n")
+            self.waits_for(proxy, f"marked server={near.address} mark=hard worker=0 outcome=refused")
+            self.assertTrue(client.is_quiet(0.1))
+            is_told.set()
+            self.assertEqual(client.reply(), b"END\r\n")
+
     def test_clients_that_end_by_a_fault_are_told_as_a_sum(self):
         proxy = self.proxy(configuration(only=[self.memcached()]), threads=1, connections=3)
         for request in (b"version\r\n", b"get " + b"a" * 70000, b"get " + b"a" * 70000):
@@ -97,8 +111,10 @@ class Log(ServerTest):
         port, (reader, writer) = free_port(), os.pipe()
         self.addCleanup(os.close, reader)
         room = fcntl.fcntl(writer, fcntl.F_SETPIPE_SZ, 4096)
-        words = serve_words(port, configuration(only=[self.closed()]),
-                            {"threads": 1, "first-delay": 1, "greatest-delay": 1})
+        ill = [self.fake(lambda *_: b"what\r\n") for _ in range(8)]
+        pools = {f"pool-{number}": [server] for number, server in enumerate(ill)}
+        words = serve_words(port, configuration(**pools),
+                            {"threads": 1, "failures": 1, "limit": len(ill), "first-delay": 1, "greatest-delay": 1})
         process = start(words, stdout=subprocess.DEVNULL, stderr=writer)
         self.addCleanup(stop, process)
         os.close(writer)
@@ -110,9 +126,13 @@ class Log(ServerTest):
                 return room - unread() < 200
 
             wait_until(is_full, 60, "the log fills its pipe")
-            # Its writer waits now. The worker goes on, far past what the log has room for.
-            for _ in range(100):
+            # Its writer waits now. The worker goes on, far past what the log has room for: each probe is an event.
+            while sum(server.count(b"version") for server in ill) < EVENTS + 200:
                 client.send(b"get a\r\n" * 100)
                 for _ in range(100):
                     self.assertEqual(client.reply(), b"SERVER_ERROR no server\r\n")
+            # Once somebody reads, it is told how many events there was no room for.
+            with open(os.dup(reader), "rb") as log:
+                told = next(line for line in log if b" lost events=" in line)
+            self.assertRegex(told[25:], rb"^lost events=[1-9][0-9]*\n$")
         self.assertIsNone(process.poll())

@@ -74,8 +74,9 @@ class Memory(ServerTest):
         return proxy.error_text()
 
     def test_a_reply_larger_than_the_memory_ends_its_session_alone(self):
-        # (an event-driven worker holds no reply above 64 MiB)
-        memory, count = (600, 2000) if MODE == "threads" else (250, 60)
+        # The reply is larger than all addresses that the program has, since how many its threads set aside, and do not use,
+        # differs from run to run. (An event-driven worker holds no reply above 64 MiB.)
+        memory, count = (600, 2000) if MODE == "threads" else (60, 60)
         proxy = self.served(threads=2, memory=memory * MIB, connections=3)
         self.assertIn(b"note: memory ran out in a session or in a round\n", self.end_of_a_greedy_client(proxy, count))
 

@@ -87,12 +87,11 @@ class RefusedMemory(RefusingTest):
     def test_a_schedule(self):
         self.assert_each_refused("replay", data=SCHEDULE)
 
-    def serve_with(self, server, requests, refused, more):
+    def serve_with(self, config, requests, refused, more):
         """What a client gets, what the program then comes to, and whether there was such a call."""
         port = free_port()
         options = {"connections": 1, "threads": 1, **more}
-        process, told = self.start_refused(serve_words(port, configuration(only=[server]), options),
-                                           {"REFUSED_CALL": refused})
+        process, told = self.start_refused(serve_words(port, config, options), {"REFUSED_CALL": refused})
         with told:
             reply = self.conversation(port, requests) if process.stdout.readline() == b"ready\n" else b""
             _, errors = process.communicate()
@@ -113,7 +112,7 @@ class RefusedMemory(RefusingTest):
         noted = 0
         for call in itertools.count(1):
             requests, whole = exchange_of(call)
-            reply, status, errors, refused = self.serve_with(server, requests, call, more)
+            reply, status, errors, refused = self.serve_with(configuration(only=[server]), requests, call, more)
             self.assertTrue(whole.startswith(reply), f"call {call}: {len(reply)} bytes, {reply[:200]}")
             if not refused:
                 break
@@ -143,6 +142,23 @@ class RefusedMemory(RefusingTest):
         requests = b"get long\r\nget longer none long\r\n" + store(*long) + b"gets none\r\nget longer\r\nquit\r\n"
         whole = values(long) + values(longer, long) + b"STORED\r\nEND\r\n" + values(longer)
         self.assert_each_refused_to_a_client(server, lambda call: (requests, whole))
+
+    def test_what_came_of_a_send_is_told_once(self):
+        """A server that refuses is marked. Where memory runs out after that, the log says so all the same."""
+        near, ended = self.closed(), 0
+        config = configuration(near=[near], far=[self.fake(lambda *_: b"END\r\n")])
+        for call in itertools.count(1):
+            reply, _, errors, refused = self.serve_with(config, b"get a\r\nquit\r\n", call, {})
+            if not refused:
+                break
+            marked, released = (errors.count(b" %s server=%s " % (word, near.address.encode()))
+                                for word in (b"marked", b"released"))
+            self.assertLessEqual(marked, 1, f"call {call}")
+            if released and not reply:
+                ended += 1
+                self.assertEqual(marked, 1, f"call {call}: {errors}")
+        self.assertEqual(reply, b"END\r\n")
+        self.assertGreater(ended, 0)
 
     def several_keys(self, **way):
         """Where memory runs out for one key, nothing of its reply is sent, and those under way answer no later request."""

@@ -125,6 +125,21 @@ class Ends(ServerTest):
         self.assertEqual(status, 0)
         self.assertEqual(self.totals(output), [300, 600 + sent, 600 - sent, 600, 0, ill.count(b"version")])
 
+    def test_totals_of_probes_without_a_client(self):
+        """The worker that marked a server probes it while it has no client, and that is counted."""
+        ill = self.fake(lambda *_: b"what\r\n")
+        proxy = self.proxy(configuration(only=[ill]), connections=2, threads=1, failures=1, first_delay=50,
+                           greatest_delay=50)
+        with proxy.client() as client:
+            client.send(b"get a\r\nquit\r\n")
+            self.assertEqual(client.rest(), b"SERVER_ERROR no server\r\n")
+        seen = ill.count(b"version")
+        wait_until(lambda: ill.count(b"version") >= seen + 3, 20, "the marked server is probed")
+        with proxy.client():
+            pass
+        status, output = proxy.end()
+        self.assertEqual((status, self.totals(output)), (0, [2, 1, 0, 0, 1, ill.count(b"version")]))
+
     def test_it_does_not_end_while_a_client_is_served(self):
         proxy = self.proxy(configuration(only=[self.memcached()]), connections=1)
         with proxy.client() as client:
