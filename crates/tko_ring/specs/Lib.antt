@@ -1,0 +1,11 @@
+pub mod Crc
+pub mod Digests
+pub mod Fnv
+pub mod Hashing
+pub mod KeyParts
+pub mod Mixing
+pub mod Movement
+pub mod Names
+pub mod Points
+pub mod Rings
+pub mod Servers
