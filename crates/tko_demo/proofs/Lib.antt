@@ -1,0 +1,6 @@
+pub mod HearLemmas
+pub mod PlayLemmas
+pub mod SceneLemmas
+pub mod ShowLemmas
+pub mod StoreLemmas
+pub mod VisitLemmas
