@@ -28,6 +28,3 @@ pub use lines::{content, first_line, split_line};
 pub use memory::NoMemory;
 pub use numbers::number;
 pub use words::{SpacedWords, is_word, split_word};
-
-#[cfg(test)]
-mod tests;

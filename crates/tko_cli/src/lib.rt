@@ -16,6 +16,3 @@ mod serving;
 mod totals;
 
 pub use program::command;
-
-#[cfg(test)]
-mod tests;

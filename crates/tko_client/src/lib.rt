@@ -27,10 +27,3 @@ pub use client::{ClientStanding, EventClient};
 pub use law::each_lives;
 pub use lent::Lent;
 pub use sends::Sends;
-
-#[cfg(test)]
-mod group_tests;
-#[cfg(test)]
-mod keys_tests;
-#[cfg(test)]
-mod tests;

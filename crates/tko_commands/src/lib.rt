@@ -30,6 +30,3 @@ pub use status::{
     DONE, fail, refuse_config, refuse_listen, run_check, run_dry, run_replay, status_of,
 };
 pub use writing::{WriteFault, write_text};
-
-#[cfg(test)]
-mod tests;

@@ -21,11 +21,7 @@ pub(crate) fn trail_lines(alloc: Global, trails: &[Trail]) -> Result<Vec<u8>, No
     Ok(out)
 }
 
-pub(crate) fn append_trail(
-    out: &mut Vec<u8>,
-    number: usize,
-    attempts: &[Attempt],
-) -> Result<(), NoMemory>
+fn append_trail(out: &mut Vec<u8>, number: usize, attempts: &[Attempt]) -> Result<(), NoMemory>
     ensures { OnOk result (out.new.items ≡ out.old.items ++ trail_text number attempts.now) }
 {
     for attempt in attempts {

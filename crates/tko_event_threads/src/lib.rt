@@ -17,6 +17,3 @@ mod seated;
 mod working;
 
 pub use working::{EventParts, event_worker};
-
-#[cfg(test)]
-mod tests;

@@ -23,6 +23,3 @@ pub use journal::Journal;
 pub use log::{Log, open};
 pub use reader::LogReader;
 pub use worker_log::WorkerLog;
-
-#[cfg(test)]
-mod tests;

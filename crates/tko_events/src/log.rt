@@ -11,7 +11,7 @@ use std::time::Clock;
 use tko_metrics::Meter;
 
 /// How many events wait for the reader at most; more are counted and lost.
-pub(crate) const MAX_PENDING: usize = 4096;
+const MAX_PENDING: usize = 4096;
 
 /// How often a send is tried: beside another thread's send a channel with room may refuse one.
 const EVENT_SEND_TRIES: u32 = 16;

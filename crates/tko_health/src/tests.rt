@@ -53,43 +53,23 @@ fn look_at<R: Wait, H: Health>(rt: &R, health: &mut H, server: usize) -> Reply
     }
 }
 
-/// Whether a worker may probe each server.
-fn duties<R: Wait, H: Health>(rt: &R, health: &mut H) -> [bool; 2]
-    requires { H.servers health.old ≡ 2 }
-    ensures { H.servers health.new ≡ 2 }
-{
-    [health.duty(rt, 0).is_some(), health.duty(rt, 1).is_some()]
-}
-
 /// What two workers saw.
 #[derive(Debug, Drop, PartialEq, Eq)]
 struct WorkersSaw {
     /// Each cannot reach one of the servers.
     failures: [Reply; 2],
-    /// What the first may probe then.
-    duties: [bool; 2],
     /// What the first finds, and what the second finds once the first has left.
     before: [Reply; 2],
     after: [Reply; 2],
-    /// What they are answered where one soft mark is allowed.
-    shared: [Reply; 8],
+    /// Both come back, and neither can reach the first server.
+    again: [Reply; 2],
 }
 
 const SEEN: WorkersSaw = WorkersSaw {
     failures: [Reply::TookHard, Reply::TookHard],
-    duties: [true, false],
     before: [Reply::Marked(Mark::Hard(0)), Reply::Marked(Mark::Hard(1))],
     after: [Reply::Up(0), Reply::Marked(Mark::Hard(1))],
-    shared: [
-        Reply::TookSoft,
-        Reply::Full,
-        Reply::Already(Mark::Soft(0)),
-        Reply::NotMine(Mark::Soft(0)),
-        Reply::Hardened,
-        Reply::TookSoft,
-        Reply::Marked(Mark::Hard(0)),
-        Reply::Marked(Mark::Soft(1)),
-    ],
+    again: [Reply::TookHard, Reply::Already(Mark::Hard(0))],
 };
 
 /// A worker takes its seat and cannot reach a server.
@@ -108,23 +88,6 @@ fn fail<R: Wait, S: Seating>(
     (health, reply)
 }
 
-/// Two workers share one soft mark.
-fn share<R: Wait, H: Health>(rt: &R, first: &mut H, second: &mut H) -> [Reply; 8]
-    requires first { H.servers first.old ≡ 2 }
-    requires second { H.servers second.old ≡ 2 }
-{
-    let took = first.soft_failure(rt, 0);
-    let full = second.soft_failure(rt, 1);
-    let already = second.success(rt, 0);
-    let not_mine = second.release(rt, 0);
-    let hardened = first.hard_failure(rt, 0);
-    let took_now = second.soft_failure(rt, 1);
-    let [one, other] = look(rt, second);
-    [
-        took, full, already, not_mine, hardened, took_now, one, other,
-    ]
-}
-
 /// Two workers mark a server each. One leaves, then the other; both come back.
 fn play<
     R: Threads + Wait + Sync,
@@ -141,17 +104,17 @@ fn play<
         || fail(rt, seating, first, 0),
         || fail(rt, seating, second, 1),
     );
-    let duties = duties(rt, &mut one);
     let before = look(rt, &mut one);
     let first = seating.leave(rt, one);
     let after = look(rt, &mut two);
     let second = seating.leave(rt, two);
+    let (_first, mine) = fail(rt, seating, first, 0);
+    let (_second, already) = fail(rt, seating, second, 0);
     WorkersSaw {
         failures: [took, other],
-        duties,
         before,
         after,
-        shared: share(rt, &mut seating.seat(first), &mut seating.seat(second)),
+        again: [mine, already],
     }
 }
 

@@ -34,6 +34,3 @@ pub use piped::Piped;
 pub use raising::raise;
 pub use taped::Taped;
 pub use writing::write_all;
-
-#[cfg(test)]
-mod clock_tests;

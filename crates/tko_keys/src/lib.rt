@@ -23,6 +23,3 @@ pub use laws::keys_life;
 pub use plan::{Grouping, KeyPlan};
 pub use step::KeyStep;
 pub use tko_reply::Dropped;
-
-#[cfg(test)]
-mod tests;

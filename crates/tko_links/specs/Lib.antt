@@ -3,7 +3,6 @@ pub mod Exchanges
 pub mod Faults
 pub mod Incoming
 pub mod Links
-pub mod MemoryWires
 pub mod Scripted
 pub mod WireRecords
 pub mod Wired

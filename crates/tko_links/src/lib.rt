@@ -28,12 +28,3 @@ pub use scripted::{RequestText, Script, Scripted};
 pub use wire::{Wire, WireFault};
 pub use wired::Wired;
 pub use wired_law::wired_records;
-
-#[cfg(test)]
-mod memory_wire;
-#[cfg(test)]
-mod peer;
-#[cfg(test)]
-mod tests;
-#[cfg(test)]
-mod wired_tests;

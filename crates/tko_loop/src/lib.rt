@@ -39,6 +39,3 @@ pub use held::Held;
 pub use host::Host;
 pub use limits::LoopLimits;
 pub use load::Load;
-
-#[cfg(test)]
-mod tests;

@@ -42,8 +42,3 @@ pub use settings::{
 pub use state::{ServerState, count_softs, has_room, opened_servers};
 pub use text::{append_mark, append_number, append_reply, op_word};
 pub use transition::Transition;
-
-#[cfg(test)]
-mod counts_tests;
-#[cfg(test)]
-mod tests;

@@ -19,6 +19,3 @@ pub use asking::{Asking, Came, Given};
 pub use client::Client;
 pub use line::Line;
 pub use mux::{Delivery, Done, Mux};
-
-#[cfg(test)]
-mod tests;

@@ -19,6 +19,3 @@ pub use law::pipe_life;
 pub use link::Link;
 pub use pipe::Pipe;
 pub use waiter::{Asker, Waiter};
-
-#[cfg(test)]
-mod tests;

@@ -1,4 +1,5 @@
 mod GroupLemmas
+mod HashRows
 mod HeldLemmas
 mod InOrderLemmas
 mod JsonLemmas

@@ -27,6 +27,3 @@ pub use fault::ConfigFault;
 pub use hash::fnv1a;
 pub use json::{child_name, pools_in, text_of};
 pub use soft_limits::soft_limit_named;
-
-#[cfg(test)]
-mod tests;

@@ -1,8 +1,7 @@
 //! What is done at one socket that does not wait, from one event to the next. There is no socket,
 //! no clock and no handle here.
 //!
-//! - `Port`: a socket that does not wait, with what may be done on it; `Read`: what a read gave;
-//!   `MemoryPort`: one in memory.
+//! - `Port`: a socket that does not wait, with what may be done on it; `Read`: what a read gave.
 //! - `Talking`: a client's session as its port sees it; `SessionStage`: how far it is; `Tally`:
 //!   what was done with it.
 //! - `settle`: serves a client until nothing can be done for it before its next event; `Settled`:
@@ -15,7 +14,6 @@
 #![tactic(auto)]
 
 mod guest;
-mod memory;
 mod peer;
 mod port;
 mod settling;
@@ -23,7 +21,6 @@ mod talking;
 mod wire;
 
 pub use guest::{ClientEvent, Guest, Presence, SharedParts, Turned};
-pub use memory::MemoryPort;
 pub use peer::Peer;
 pub use port::{Port, Read};
 pub use settling::{End, Settled, settle};

@@ -35,26 +35,3 @@ fn probe_moments(rt: HostRuntime) -> Result<(), Fail> {
     assert_eq!(rt; prober.turn(u64::MAX), ProbeTurn::Rest);
     Ok(())
 }
-
-#[test]
-fn moments_stay_at_the_greatest(rt: HostRuntime) -> Result<(), Fail> {
-    let delays = Delays::new(10_000, 60_000).ok_or("delays")?;
-    let mut prober = Prober::begin(delays, 18_446_744_073_709_551_610);
-    sends_at(&rt, &mut prober, u64::MAX);
-    prober.stop();
-    assert_eq!(rt; prober.turn(u64::MAX), ProbeTurn::Rest);
-    Ok(())
-}
-
-#[test]
-fn delays_outside_their_range(rt: HostRuntime) -> Result<(), Fail> {
-    for (first, greatest, is_range) in [
-        (0, 5, false),
-        (6, 5, false),
-        (5, 5, true),
-        (1, u32::MAX, true),
-    ] {
-        assert_eq!(rt; Delays::new(first, greatest).is_some(), is_range);
-    }
-    Ok(())
-}

@@ -11,6 +11,3 @@ mod running;
 mod visits;
 
 pub use rounds::Rounds;
-
-#[cfg(test)]
-mod tests;

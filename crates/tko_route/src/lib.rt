@@ -21,6 +21,3 @@ pub use recording::record_outcome;
 pub use routed::{RouteFault, Routed};
 pub use routing::{AwaitedSend, Stage};
 pub use tko_health::{Health, LockedHealth, PlainHealth};
-
-#[cfg(test)]
-mod tests;

@@ -11,9 +11,6 @@ use crate::{Event, SkippedTurn, Version};
 use std::marker::Model;
 use tko_model::Settings;
 
-#[cfg(test)]
-mod tests;
-
 /// Events in order, and between them the turns that were asked for and did nothing. Contracts see
 /// a `RunData`.
 #[derive(Debug, Drop)]

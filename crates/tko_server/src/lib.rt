@@ -40,6 +40,3 @@ pub use tko_accept::{Allotment, FirstAsks};
 pub use tko_threads::{
     Account, Member, Next, Patience, Source, WorkerParts, WorkerReport, pool, worker,
 };
-
-#[cfg(test)]
-mod server_tests;

@@ -38,8 +38,3 @@ pub use tko_io::{
 };
 pub use tko_prober::{Backend, ProbeSlot, Probers};
 pub use tko_reply::{Counts, Dropped, Kept, Parts, Trails, status};
-
-#[cfg(test)]
-mod driver_tests;
-#[cfg(test)]
-mod tests;

@@ -11,6 +11,3 @@ mod trace;
 
 pub use socket::{Connecting, Socket};
 pub use trace::Trace;
-
-#[cfg(test)]
-mod tests;

@@ -25,6 +25,3 @@ pub use law::{every_run, one_thread_alone, one_word_a_step};
 pub use phase::{Call, Phase, Slots, ThreadState};
 pub use step::{BeginFault, Place, StepKind, Stepped, Word};
 pub use table::{Action, Decision, Observed, next};
-
-#[cfg(test)]
-mod tests;

@@ -1,4 +1,3 @@
-pub mod Callers
 pub mod Closing
 pub mod Enrolments
 pub mod History

@@ -26,6 +26,3 @@ pub use closed::ClosedWords;
 pub use pass::{Change, Made, PassView, Seat, View};
 pub use rule::WordsRule;
 pub use words::Words;
-
-#[cfg(test)]
-mod tests;

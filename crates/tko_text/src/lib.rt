@@ -32,6 +32,3 @@ pub use reader::{FeedFault, Reader};
 pub use request::{Entry, Request, Verb};
 pub use response::{Data, Listed, ReadFault, Response, Text, Value, one_response};
 pub use tko_bytes::NoMemory;
-
-#[cfg(test)]
-mod tests;

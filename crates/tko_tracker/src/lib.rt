@@ -26,6 +26,3 @@ pub use laws::opened_tracker_is_up;
 pub use named::Named;
 pub use pass::{IdlePass, Pass, wake};
 pub use tracker::{Tracker, open};
-
-#[cfg(test)]
-mod tests;

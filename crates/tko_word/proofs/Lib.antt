@@ -1,2 +1,3 @@
 pub mod SoftLemmas
 pub mod WordLemmas
+mod WordRows

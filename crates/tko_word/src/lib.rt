@@ -15,6 +15,3 @@ mod soft;
 pub use health::{STAMP_END, is_word, is_word_in, pack, unpack};
 pub use law::{changed_counts, one_in_two, one_reading};
 pub use soft::{ONE_SLOT, SLOT_OVER_MARK, pack_soft, unpack_soft};
-
-#[cfg(test)]
-mod tests;

@@ -23,6 +23,3 @@ pub use event_worker::EventWorker;
 pub use law::{acts_compose, clients_act};
 pub use resting::Outlook;
 pub use worker::Worker;
-
-#[cfg(test)]
-mod tests;

@@ -1,12 +1,11 @@
-//! Two workers at once, with the health of the servers in a lock and without one.
+//! A pool of two, of which each needs the other at work.
 ghost use Rattle.std.specs.Prelude.{◌≡◌, All, IfOk, length};
 ghost use Rattle.tko_tracker.specs.Seated.{ArePasses};
 ghost use Rattle.tko_threads.specs.Workers.{AreMembersReady, IsEquipped};
 
 use super::gate::Gate;
-use super::screen::{ScreenVisit, Visits};
+use super::screen::OneClient;
 use super::staged::{Meets, Staged};
-use super::{OneServerSettings, SETTINGS, config, delays};
 use crate::{Account, Member, WorkerParts, pool};
 use std::alloc::Global;
 use std::marker::Brand;
@@ -17,14 +16,22 @@ use std::thread::Threads;
 use std::time::Clock;
 use tko_desk::{Book, Share};
 use tko_events::WorkerLog;
-use tko_health::{Health, LockedSeating, Seating, SharedSeating};
+use tko_health::{Health, Seating, SharedSeating};
 use tko_io::FrozenClock;
 use tko_links::{Script, Scripted};
-use tko_prober::Probers;
+use tko_model::OneGroup;
+use tko_pools::Config;
+use tko_prober::{Delays, Probers};
 use tko_tracker::{IdlePass, Named, Tracker, open};
 
-/// Each member has one client.
-const VISITS: [ScreenVisit; 1] = [ScreenVisit::Client(b"get a\r\n")];
+/// One server and two threads.
+const SETTINGS: OneGroup = OneGroup {
+    threads: 2,
+    ..OneGroup::SMALL
+};
+
+/// What the client of each member sends.
+const REQUEST: &[u8] = b"get a\r\n";
 
 /// What two members share.
 #[derive(Drop)]
@@ -36,7 +43,7 @@ struct PoolShared<S> {
 }
 
 /// One of the two.
-type Overlapping<'a, P, S> = Member<'a, Visits<'a>, P, S, Staged<'a>, FrozenClock>;
+type Overlapping<'a, P, S> = Member<'a, OneClient<'a>, P, S, Staged<'a>, FrozenClock>;
 
 impl<P: Drop, S: Seating<Idle = P>> PoolShared<S> {
     /// A member with one client for each seat. The first has the first of the two requests.
@@ -55,9 +62,8 @@ impl<P: Drop, S: Seating<Idle = P>> PoolShared<S> {
         for (idle, share) in seats.into_iter().zip(shares.iter_mut()) {
             let is_first = members.is_empty();
             members.push(Member {
-                source: Visits {
-                    visits: &VISITS,
-                    next: 0,
+                source: OneClient {
+                    bytes: Some(REQUEST),
                     text: &self.text,
                 },
                 idle,
@@ -91,8 +97,8 @@ impl<P: Drop, S: Seating<Idle = P>> PoolShared<S> {
                     Meets::SecondAt(&self.gate)
                 },
             },
-            config: config(alloc, "s:1")?,
-            probers: Probers::new(alloc, delays()?, 1)?,
+            config: config(alloc)?,
+            probers: Probers::new(alloc, Delays::new(10_000, 60_000).ok_or("delays")?, 1)?,
             clock: FrozenClock,
             account: Account {
                 book: &self.book,
@@ -101,6 +107,15 @@ impl<P: Drop, S: Seating<Idle = P>> PoolShared<S> {
             log: WorkerLog::off(),
         })
     }
+}
+
+/// The configuration of one server.
+fn config(alloc: Global) -> Result<Config, Fail>
+    ensures { IfOk result (λ config. length config.addresses ≡ 1) }
+{
+    let mut addresses = Vec::new(alloc);
+    addresses.push(String::from_str(alloc, "s:1")?)?;
+    Ok(Config::in_order(alloc, addresses)?)
 }
 
 /// What a pool of two came to.
@@ -137,7 +152,7 @@ fn run_both<
     })
 }
 
-/// Both over the tracker without a lock that `N` names.
+/// Both over the tracker that `N` names.
 fn run_both_at<
     R: Wait + Net<Stream = TcpStream, Listener = TcpListener> + Clock + Threads + Sync,
     N: Named + Send + Sync,
@@ -156,19 +171,6 @@ fn workers_overlap(rt: HostRuntime) -> Result<(), Fail> {
     let ended = run_both_at::<_, Brand>(&rt, rt.alloc(), &tracker, passes)?;
     assert_eq!(rt; ended.workers, 2);
     assert!(rt; !ended.late);
-    assert_eq!(rt; ended.text.as_slice(), b"END\r\nEND\r\n".as_slice());
-    Ok(())
-}
-
-#[test]
-fn workers_in_a_lock_overlap(rt: HostRuntime) -> Result<(), Fail> {
-    let _sockets: Option<(TcpStream, TcpListener)> = None;
-    let (seating, seats) = LockedSeating::<OneServerSettings>::open(
-        rt.alloc(),
-        SETTINGS.settings(rt.alloc())?,
-    )?;
-    let ended = run_both(&rt, rt.alloc(), seating, seats)?;
-    assert_eq!(rt; (ended.workers, ended.late), (2, false));
     assert_eq!(rt; ended.text.as_slice(), b"END\r\nEND\r\n".as_slice());
     Ok(())
 }

@@ -1,9 +1,13 @@
 //! Clients in memory.
 
-use super::PATIENCE;
-use crate::{Next, Source};
+use crate::{Next, Patience, Source};
 use std::sync::Mutex;
 use tko_io::{FrozenClock, IoRuntime, Outlet, Piped, Stop};
+
+const PATIENCE: Patience = Patience {
+    write_timeout: 5_000,
+    idle_timeout: 0,
+};
 
 /// Where the replies to several clients go, one after another.
 #[derive(Drop)]
@@ -28,23 +32,14 @@ impl<'a> Outlet for Screen<'a> {
     }
 }
 
-/// What a source gives.
-#[derive(Clone, Copy)]
-pub enum ScreenVisit<'a> {
-    /// A client that sends this.
-    Client(&'a [u8]),
-    Idle,
-}
-
-/// A source of these visits, one after another.
+/// A source of one client, which sends this.
 #[derive(Drop)]
-pub struct Visits<'a> {
-    pub visits: &'a [ScreenVisit<'a>],
-    pub next: usize,
+pub struct OneClient<'a> {
+    pub bytes: Option<&'a [u8]>,
     pub text: &'a Mutex<Vec<u8>>,
 }
 
-impl<'a> Source for Visits<'a> {
+impl<'a> Source for OneClient<'a> {
     type Reader = Piped<&'a [u8]>;
 
     type Writer = Screen<'a>;
@@ -56,13 +51,12 @@ impl<'a> Source for Visits<'a> {
     }
 
     fn next<R: IoRuntime>(&mut self, _rt: &R) -> Next<Piped<&'a [u8]>, Screen<'a>> {
-        let visit = self.visits.get(self.next);
-        self.next = self.next.saturating_add(1);
-        match visit {
-            Some(ScreenVisit::Client(bytes)) => {
-                Next::Connection(Piped::new(*bytes), Screen { text: self.text }, PATIENCE)
-            }
-            Some(ScreenVisit::Idle) => Next::Idle,
+        match self.bytes.take() {
+            Some(bytes) => Next::Connection(
+                Piped::new(bytes),
+                Screen { text: self.text },
+                PATIENCE,
+            ),
             None => Next::Closed,
         }
     }

@@ -9,9 +9,6 @@ use tko_text::Request;
 /// What a request meets before it is sent.
 #[derive(Drop)]
 pub enum Meets<'a> {
-    Nothing,
-    /// Memory is short, and it cannot be sent.
-    NoMemory,
     /// It is the first of the two that wait for each other.
     FirstAt(&'a Gate),
     /// It is the second of the two.
@@ -44,12 +41,6 @@ impl<'a> Links for Staged<'a> {
         request: &Request,
     ) -> Result<Outcome, ExchangeNoMemory> {
         match &self.meets {
-            Meets::Nothing => {}
-            Meets::NoMemory => {
-                if self.inner.sends(clear.server()) < u64::MAX {
-                    return Err(ExchangeNoMemory { sent: false });
-                }
-            }
             Meets::FirstAt(gate) => gate.hold_first(rt),
             Meets::SecondAt(gate) => gate.hold_second(rt),
         }

@@ -1,17 +1,15 @@
-//! What each of the three threads does.
+//! What each of the two threads does.
 ghost use Rattle.std.specs.Prelude.{◌≡◌, ◌<◌, IfOk};
 ghost use Rattle.tko_tracker.specs.Seated.{IsOf};
 
-use super::order::{TimedCall, is_change};
-use crate::tests::handing::reply;
-use crate::{Book, Desk, Kind, Share};
+use super::order::TimedCall;
+use crate::Desk;
 use std::alloc::{AllocError, Global};
 use std::process::Abort;
+use std::sync::Wait;
 use std::sync::atomic::{AtomicU64, Ordering};
-use std::sync::{Mutex, Wait};
-use std::thread::yield_now;
 use tko_model::{Look, Op, Reply};
-use tko_tracker::{IdlePass, Named, Tracker, wake};
+use tko_tracker::{IdlePass, Named, Pass, Tracker, wake};
 
 /// How often each of the two takes a pass, and how many calls it makes on it before it retires.
 const TURNS: u32 = 200;
@@ -34,34 +32,46 @@ const OPS: [Op; 8] = [
 #[derive(Drop)]
 pub(super) struct ThreadsShared<N: Named> {
     pub(super) desk: Desk<N>,
-    pub(super) book: Mutex<Book>,
     /// Counts moments.
     pub(super) clock: AtomicU64,
-    /// How many of the two threads are done.
-    pub(super) done: AtomicU64,
 }
 
-/// Makes the calls of one turn, writes them down, and retires. Returns how many changes it made
-/// too.
+/// Makes this call.
+fn reply(tracker: &Tracker, pass: &mut Pass, op: Op, server: usize) -> Reply
+    requires tracker { IsOf tracker.now pass.old }
+    requires server { server < tracker.now.settings.servers }
+    ensures { IsOf tracker.now pass.new }
+{
+    match op {
+        Op::LookUp => match tracker.look_up(pass, server) {
+            Look::Up(count, _) => Reply::Up(count),
+            Look::Marked(mark) => Reply::Marked(mark),
+        },
+        Op::SoftFailure => tracker.soft_failure(pass, server),
+        Op::HardFailure => tracker.hard_failure(pass, server),
+        Op::Success => tracker.success(pass, server),
+        Op::Release => tracker.release(pass, server),
+    }
+}
+
+/// Makes the calls of one turn, writes them down, and retires.
 fn make_calls(
     tracker: &Tracker,
     clock: &AtomicU64,
     idle: IdlePass,
     calls: &mut Vec<TimedCall>,
-) -> Result<(IdlePass, u64), AllocError>
+) -> Result<IdlePass, AllocError>
     requires tracker { IsOf tracker.now idle }
     requires servers { 0 < tracker.now.settings.servers }
-    ensures { IfOk result (λ made. IsOf tracker.now made.0) }
+    ensures { IfOk result (λ made. IsOf tracker.now made) }
 {
     let number = idle.number();
     let mut pass = wake(idle);
-    let mut changes = 0_u64;
     for turn in 0..CALLS {
         let op = OPS[turn % 8];
         let begin = clock.fetch_add(1, Ordering::SeqCst);
         let reply = reply(tracker, &mut pass, op, 0);
         let end = clock.fetch_add(1, Ordering::SeqCst);
-        changes = changes.wrapping_add(is_change(reply) as u64);
         calls.push(TimedCall {
             number,
             op,
@@ -76,7 +86,6 @@ fn make_calls(
     let idle = tracker.retire(pass);
     let end = clock.fetch_add(1, Ordering::SeqCst);
     if owned {
-        changes = changes.wrapping_add(1);
         calls.push(TimedCall {
             number,
             op: Op::Release,
@@ -85,7 +94,7 @@ fn make_calls(
             end,
         })?;
     }
-    Ok((idle, changes))
+    Ok(idle)
 }
 
 /// What a release of the mark that was found is answered.
@@ -96,59 +105,21 @@ fn released(found: Look) -> Reply {
     }
 }
 
-/// One of the two: takes a pass from the desk for each turn, and counts its calls and changes.
+/// Takes a pass from the desk for each turn, and returns the calls of all turns.
 pub(super) fn hammer<R: Wait + Abort, N: Named>(
     rt: &R,
     alloc: Global,
     tracker: &Tracker,
     shared: &ThreadsShared<N>,
-    share: Share,
-) -> (Share, Vec<TimedCall>)
+) -> Vec<TimedCall>
     requires named { tracker.now ≡ N.tracker }
     requires servers { 0 < N.tracker.settings.servers }
 {
-    let mut share = share;
     let mut calls = Vec::new(alloc);
     for _ in 0..TURNS {
-        let before = calls.len();
         let idle = shared.desk.take(rt).expect(rt, "a pass for each thread");
-        let (idle, changes) = make_calls(tracker, &shared.clock, idle, &mut calls).expect(
-            rt, "memory",
-        );
+        let idle = make_calls(tracker, &shared.clock, idle, &mut calls).expect(rt, "memory");
         assert!(rt; shared.desk.give(rt, idle).is_ok());
-        let count = calls.len().wrapping_sub(before) as u64;
-        let mut book = shared.book.lock(rt);
-        assert!(rt; book.add_many(&mut share, Kind::Request, count).is_ok());
-        assert!(rt; book.add_many(&mut share, Kind::Reply, changes).is_ok());
     }
-    shared.done.fetch_add(1, Ordering::SeqCst);
-    (share, calls)
-}
-
-/// The third: takes a pass from the desk and gives it back until the two are done, and counts them.
-pub(super) fn lend<R: Wait + Abort, N: Named>(
-    rt: &R,
-    shared: &ThreadsShared<N>,
-    share: Share,
-) -> (Share, u64) {
-    let mut share = share;
-    let mut count = 0_u64;
-    for _ in rt.forever() {
-        let idle = shared.desk.take(rt).expect(rt, "a pass for each thread");
-        yield_now();
-        assert!(rt; shared.desk.give(rt, idle).is_ok());
-        yield_now();
-        count = count.wrapping_add(1);
-        if shared.done.load(Ordering::SeqCst) == 2 {
-            break;
-        }
-    }
-    assert!(rt;
-        shared
-            .book
-            .lock(rt)
-            .add_many(&mut share, Kind::Probe, count)
-            .is_ok()
-    );
-    (share, count)
+    calls
 }
