@@ -4,7 +4,7 @@
    - REFUSED_READ, REFUSED_WRITE: the reads of standard input, and the writes to standard output, which fail with the
      number REFUSED_ERRNO
    - REFUSED_NODELAY: the settings of TCP_NODELAY, which is the first thing that is set on a client's socket
-   - REFUSED_ACCEPT: the accepts, which fail with the number REFUSED_ERRNO
+   - REFUSED_ACCEPT: the accepts that a client came to, which is closed; they fail with the number REFUSED_ERRNO
    With BYTE_BY_BYTE each of these reads and writes moves one byte. */
 #define _GNU_SOURCE
 #include <dlfcn.h>
@@ -98,5 +98,10 @@ int setsockopt(int file, int level, int name, const void *value, socklen_t size)
 int accept4(int file, struct sockaddr *address, socklen_t *size, int flags) {
     if (!next_accept)
         next_accept = (int (*)(int, struct sockaddr *, socklen_t *, int))dlsym(RTLD_NEXT, "accept4");
-    return is_refused(&accepts_left, fault_number) ? -1 : next_accept(file, address, size, flags);
+    int client = next_accept(file, address, size, flags);
+    if (client < 0 || !is_refused(&accepts_left, fault_number))
+        return client;
+    close(client);
+    errno = fault_number;
+    return -1;
 }
