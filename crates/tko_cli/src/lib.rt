@@ -2,6 +2,7 @@
 //! status out.
 //!
 //! - `command`: reads the words, runs the command that they name, and returns the status.
+//! - `hold_standard_streams`: for the program to call first.
 //! - `serve` of serving.rt is the command that serves clients; the others are those of
 //!   tko_commands.
 #![tactic(auto)]
@@ -13,6 +14,8 @@ mod planned;
 mod prepared;
 mod program;
 mod serving;
+mod standard_streams;
 mod totals;
 
 pub use program::command;
+pub use standard_streams::hold_standard_streams;

@@ -1,6 +1,9 @@
 //! The program: passes its arguments and its standard ends to the command.
 #![tactic(auto)]
 
+mod build;
+
+use build::BUILD;
 use std::alloc::Global;
 use std::fs::{File, Files};
 use std::io::{Read, Write};
@@ -11,18 +14,31 @@ use std::sync::Wait;
 use std::thread::Threads;
 use std::time::Clock;
 use std::{env, io};
-use tko_cli::command;
+use tko_cli::{command, hold_standard_streams};
 use tko_io::Piped;
 
 fn main(rt: HostRuntime) -> ExitCode {
+    hold_standard_streams(&rt);
     let status = match words_of(&rt) {
         Ok(words) => {
             let ends = (rt.stdin(), rt.stdout(), rt.stderr());
-            run(&rt, rt.alloc(), &words, ends)
+            let status = run(&rt, rt.alloc(), &words, ends);
+            if status == 0 && asks_for_version(&words) {
+                let _ = rt.stdout().println(BUILD);
+            }
+            status
         },
         Err(error) => report(&rt, error.kind()),
     };
     ExitCode::from(status)
+}
+
+/// Whether the words ask for the version, after which the build is printed.
+fn asks_for_version(words: &[String]) -> bool {
+    match words.get(1) {
+        Some(word) => word.as_str() == "--version" || word.as_str() == "-V",
+        None => false,
+    }
 }
 
 fn words_of(rt: &(impl Env + AllocGlobal)) -> io::Result<Vec<String>> {
