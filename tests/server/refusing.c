@@ -5,11 +5,14 @@
      number REFUSED_ERRNO
    - REFUSED_NODELAY: the settings of TCP_NODELAY, which is the first thing that is set on a client's socket
    - REFUSED_ACCEPT: the accepts that a client came to, which is closed; they fail with the number REFUSED_ERRNO
+   - REFUSED_BIND, REFUSED_CONNECT: the calls of bind and connect, which fail with the number REFUSED_ERRNO
+   - REFUSED_THREAD: the threads that are made
    With BYTE_BY_BYTE each of these reads and writes moves one byte. */
 #define _GNU_SOURCE
 #include <dlfcn.h>
 #include <errno.h>
 #include <netinet/tcp.h>
+#include <pthread.h>
 #include <stdlib.h>
 #include <sys/socket.h>
 #include <unistd.h>
@@ -20,7 +23,10 @@ static ssize_t (*next_read)(int, void *, size_t);
 static ssize_t (*next_write)(int, const void *, size_t);
 static int (*next_setsockopt)(int, int, int, const void *, socklen_t);
 static int (*next_accept)(int, struct sockaddr *, socklen_t *, int);
-static long calls_left, reads_left, writes_left, nodelays_left, accepts_left;
+static int (*next_bind)(int, const struct sockaddr *, socklen_t);
+static int (*next_connect)(int, const struct sockaddr *, socklen_t);
+static int (*next_thread)(pthread_t *, const pthread_attr_t *, void *(*)(void *), void *);
+static long calls_left, reads_left, writes_left, nodelays_left, accepts_left, binds_left, connects_left, threads_left;
 static int told, fault_number, is_byte_by_byte;
 static const char *from;
 
@@ -35,6 +41,9 @@ __attribute__((constructor)) static void begin(void) {
     writes_left = number_of("REFUSED_WRITE", 0);
     nodelays_left = number_of("REFUSED_NODELAY", 0);
     accepts_left = number_of("REFUSED_ACCEPT", 0);
+    binds_left = number_of("REFUSED_BIND", 0);
+    connects_left = number_of("REFUSED_CONNECT", 0);
+    threads_left = number_of("REFUSED_THREAD", 0);
     told = number_of("REFUSED_TO", -1);
     fault_number = number_of("REFUSED_ERRNO", EIO);
     is_byte_by_byte = number_of("BYTE_BY_BYTE", 0);
@@ -104,4 +113,23 @@ int accept4(int file, struct sockaddr *address, socklen_t *size, int flags) {
     close(client);
     errno = fault_number;
     return -1;
+}
+
+int bind(int file, const struct sockaddr *address, socklen_t size) {
+    if (!next_bind)
+        next_bind = (int (*)(int, const struct sockaddr *, socklen_t))dlsym(RTLD_NEXT, "bind");
+    return is_refused(&binds_left, fault_number) ? -1 : next_bind(file, address, size);
+}
+
+int connect(int file, const struct sockaddr *address, socklen_t size) {
+    if (!next_connect)
+        next_connect = (int (*)(int, const struct sockaddr *, socklen_t))dlsym(RTLD_NEXT, "connect");
+    return is_refused(&connects_left, fault_number) ? -1 : next_connect(file, address, size);
+}
+
+int pthread_create(pthread_t *thread, const pthread_attr_t *kind, void *(*run)(void *), void *argument) {
+    if (!next_thread)
+        next_thread = (int (*)(pthread_t *, const pthread_attr_t *, void *(*)(void *), void *))dlsym(
+            RTLD_NEXT, "pthread_create");
+    return is_refused(&threads_left, EAGAIN) ? EAGAIN : next_thread(thread, kind, run, argument);
 }

@@ -9,11 +9,14 @@ use Rattle.tko_commands.specs.Reasons.{IsFileFault, IsLoadedServer}
 use Rattle.tko_commands.specs.Replays.{ReplayFails, ReplaysSchedule}
 use Rattle.tko_commands.specs.declared.fault.Fault.{Fault}
 use Rattle.tko_commands.specs.declared.fault.Fault.TheVariants as fault
+use Rattle.tko_cli.specs.Demos.{HasDemonstrated, IsDemoFault}
+use Rattle.tko_demo.specs.Stories.{StayFails}
 use Rattle.tko_cli.specs.Notices.{HasNotices}
 use Rattle.tko_cli.specs.Serving.{HasServeFailed, HasServedToEnd, ServeFails}
 use Rattle.tko_options.specs.Asked.{IsReadFrom, IsRefusal}
 use Rattle.tko_options.specs.declared.asked.Asked.TheVariants as asked
 use Rattle.tko_options.specs.declared.check_options.CheckOptions.{CheckOptions}
+use Rattle.tko_options.specs.declared.demo_options.DemoOptions.{DemoOptions}
 use Rattle.tko_options.specs.declared.dry_options.DryOptions.{DryOptions}
 use Rattle.tko_options.specs.declared.refusal.Refusal.{Refusal}
 use Rattle.tko_options.specs.declared.refusal.Refusal.TheVariants as refusal
@@ -60,6 +63,9 @@ pub data IsCommandDone {I O F : Type 0} (inlet : InletGhosts I) (outlet : Outlet
       → HasCheckedAll outlet.takes options old.output new.output
       → new.input ≡ old.input → new.faults ≡ old.faults
       → IsCommandDone inlet outlet notes words old new
+  Demonstrated : (options : DemoOptions) → IsReadFrom words (asked.Demo options)
+      → HasDemonstrated inlet outlet.takes options (old.input, old.output) (new.input, new.output)
+      → new.faults ≡ old.faults → IsCommandDone inlet outlet notes words old new
   Shown : (shown : Refusal) (text : List ℕ) → IsRefusal words shown → answer_in shown ≡ Some text
       → outlet.takes old.output text new.output → new.input ≡ old.input
       → new.faults ≡ old.faults → IsCommandDone inlet outlet notes words old new
@@ -109,3 +115,16 @@ pub data IsFaultTold {O F : Type 0} (takes : O → List ℕ → O → Type 0) (f
         → HasServeFailed takes failures from to
         → HasNotices notes faults old middle → IsFaultWritten notes faults reason middle new
         → IsFaultTold takes failures notes faults came from to old new
+
+-- by a fault the command that these words ask for ended, and its line was written; of `demo` it is a
+-- fault of its own
+pub data HasCommandFailed {I O F : Type 0} (inlet : InletGhosts I) (outlet : OutletGhosts O)
+    (notes : OutletGhosts F) (words : List (List ℕ)) (old new : CommandEnds I O F) : Type 0 where
+  WithFault : IsFaultTold outlet.takes outlet.failures notes.takes notes.failures
+      (IsNotDone inlet outlet words (old.input, old.output) (new.input, new.output))
+      old.output new.output old.faults new.faults
+      → HasCommandFailed inlet outlet notes words old new
+  NotDemonstrated : (options : DemoOptions) → IsReadFrom words (asked.Demo options)
+      → IsDemoFault notes.takes notes.failures (StayFails inlet.failures outlet.failures
+      (old.input, old.output) (new.input, new.output)) old.faults new.faults
+      → HasCommandFailed inlet outlet notes words old new

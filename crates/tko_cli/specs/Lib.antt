@@ -1,4 +1,5 @@
 pub mod Announcements
+pub mod Demos
 pub mod Endings
 pub mod Limits
 pub mod Notices

@@ -70,7 +70,7 @@ fn listener_of<R: IoRuntime<Listener = TcpListener>>(
 
 /// The event log of this server that the options ask for, if they do. Its lines go to the standard
 /// error of the runtime, and not to the outlet of the faults.
-fn logging_of<R: IoRuntime>(
+pub(crate) fn logging_of<R: IoRuntime>(
     rt: &R,
     alloc: Global,
     options: &ServeOptions,

@@ -1,9 +1,10 @@
 //! From the arguments to the status.
 ghost use Rattle.std.specs.Prelude.{◌≡◌, ◌<◌, ◌≤◌, IfErr, OnOk, map, string_bytes};
-ghost use Rattle.tko_cli.specs.Endings.{HasNotServed, HasServedFor, IsCommandDone, IsFaultTold, IsNotDone, ends};
+ghost use Rattle.tko_cli.specs.Endings.{HasCommandFailed, HasNotServed, HasServedFor, IsCommandDone, IsFaultTold, ends};
 ghost use Rattle.tko_cli.specs.Notices.{HasNotices};
 ghost use Rattle.tko_cli.specs.Serving.{HasServedToEnd, ServeFails};
 
+use crate::demo::run_demo;
 use crate::serving::serve;
 use std::alloc::Global;
 use std::fs::{File, Files};
@@ -37,16 +38,16 @@ pub fn command<
     ensures status { result ≤ 2 }
     ensures done { result ≡ 0 → IsCommandDone I.Inlet O.Outlet F.Outlet (map string_bytes words.now)
         (ends input.old output.old faults.old) (ends input.new output.new faults.new) }
-    ensures fault { result ≡ 1 → IsFaultTold O.takes O.failures F.takes F.failures
-        (IsNotDone I.Inlet O.Outlet (map string_bytes words.now)
-        (input.old, output.old) (input.new, output.new))
-        output.old output.new faults.old faults.new }
+    ensures fault { result ≡ 1 → HasCommandFailed I.Inlet O.Outlet F.Outlet
+        (map string_bytes words.now)
+        (ends input.old output.old faults.old) (ends input.new output.new faults.new) }
     ensures refused { result ≡ 2 → (input.new ≡ input.old) × (output.new ≡ output.old) }
 {
     match Asked::read(alloc, words) {
         Ok(Asked::Dry(options)) => run_dry(rt, alloc, options, input, output, faults),
         Ok(Asked::Replay) => run_replay(rt, alloc, input, output, faults),
         Ok(Asked::Serve(options)) => run_server(rt, alloc, options, output, faults),
+        Ok(Asked::Demo(options)) => run_demo(rt, alloc, options, input, output, faults),
         Ok(Asked::Check(options)) => run_check(rt, alloc, options, output, faults),
         Err(Refusal::Memory) => status_of(rt, alloc, faults, Err(Fault::Memory)),
         Err(Refusal::Wrong(text)) => refuse(rt, faults, text.as_str()),

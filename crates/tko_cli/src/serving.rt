@@ -85,7 +85,7 @@ fn run_prepared<
 }
 
 /// Runs the server to its end, and prints `ready` once clients can connect.
-fn run_announced<
+pub(crate) fn run_announced<
     R: IoRuntime<Listener = TcpListener> + Threads + Sync + Copy + Send + 'static + Eprint,
     O: Outlet,
 >(rt: &R, alloc: Global, prepared: Prepared, output: &mut O) -> Result<Ended, ServerRunFault>

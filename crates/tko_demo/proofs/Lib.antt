@@ -3,4 +3,5 @@ pub mod PlayLemmas
 pub mod SceneLemmas
 pub mod ShowLemmas
 pub mod StoreLemmas
+pub mod StoryLemmas
 pub mod VisitLemmas

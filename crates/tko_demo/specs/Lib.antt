@@ -1,8 +1,10 @@
 pub mod Answers
 pub mod Effects
 pub mod Exchanges
+pub mod Faults
 pub mod Hearing
 pub mod Playing
 pub mod Scenes
 pub mod Stores
+pub mod Stories
 pub mod Visits

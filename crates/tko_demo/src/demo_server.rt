@@ -1,4 +1,6 @@
 //! A server on a thread of its own.
+ghost use Rattle.std.specs.Prelude.{IfErr};
+ghost use Rattle.tko_demo.specs.Faults.{IsUnavailable};
 
 use crate::fault::DemoFault;
 use crate::host::Host;
@@ -25,7 +27,9 @@ impl DemoServer {
         rt: &R,
         alloc: Global,
         address: SocketAddr,
-    ) -> Result<DemoServer, DemoFault> {
+    ) -> Result<DemoServer, DemoFault>
+        ensures { IfErr result IsUnavailable }
+    {
         let Ok(listener) = TcpListener::bind(rt, address) else {
             return Err(DemoFault::Port);
         };

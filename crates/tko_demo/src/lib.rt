@@ -6,7 +6,9 @@
 //! - `Exchange`: a request of the client, by the reply that it must get; `Addresses` says where the
 //!   two servers are, and a `Caller` is the two ends of the client's connection.
 //! - `play_scene`: plays a `Scene` of the story: sends its requests, reads their replies and prints
-//!   both, up to the first reply that is not the right one. `show_fault` prints why it ended.
+//!   both, up to the first reply that is not the right one. `show_story` plays all of them over a
+//!   connection to a proxy; `stay` then waits for the end of an input. `write` prints what comes
+//!   beside it, and `show_fault` why it ended.
 #![tactic(auto)]
 
 mod answering;
@@ -20,7 +22,9 @@ mod host;
 mod playing;
 mod scene;
 mod showing;
+mod staying;
 mod store;
+mod story;
 mod values;
 mod visit;
 
@@ -29,8 +33,10 @@ pub use exchange::{Addresses, Exchange};
 pub use fault::DemoFault;
 pub use playing::Caller;
 pub use scene::{Scene, play_scene};
-pub use showing::show_fault;
+pub use showing::{show_fault, write};
+pub use staying::stay;
 pub use store::Store;
+pub use story::show_story;
 
 #[cfg(test)]
 mod tests;

@@ -1,6 +1,7 @@
 //! What was asked and answered, as lines of text.
 ghost use Rattle.std.specs.Prelude.{◌≡◌, ◌<◌, ◌++◌, IfErr, IfOk, OnOk};
 ghost use Rattle.tko_demo.specs.Exchanges.{shown_text, signed_lines};
+ghost use Rattle.tko_demo.specs.Faults.{IsFaultShown};
 ghost use Rattle.tko_demo.specs.Playing.{HasNotShown, IsShown};
 
 use crate::exchange::{Addresses, Exchange};
@@ -72,11 +73,7 @@ fn append_signed(out: &mut Vec<u8>, sign: &[u8], text: &[u8]) -> Result<(), NoMe
 }
 
 /// Writes a text.
-pub(crate) fn write<R: IoRuntime, O: Outlet>(
-    rt: &R,
-    output: &mut O,
-    text: &[u8],
-) -> Result<(), DemoFault>
+pub fn write<R: IoRuntime, O: Outlet>(rt: &R, output: &mut O, text: &[u8]) -> Result<(), DemoFault>
     ensures ok { OnOk result (IsShown O.takes O.failures text.now output.old output.new) }
     ensures err { IfErr result (HasNotShown O.failures output.old output.new) }
 {
@@ -88,14 +85,10 @@ pub(crate) fn write<R: IoRuntime, O: Outlet>(
     }
 }
 
-/// Writes why the story ends before its end. A failure to write it is not reported.
-pub fn show_fault<R: IoRuntime, O: Outlet>(
-    rt: &R,
-    alloc: Global,
-    output: &mut O,
-    fault: DemoFault,
-) {
-    if let Ok(line) = format!(in alloc; "demo: {fault}\n") {
-        let _ = write(rt, output, line.as_bytes());
-    }
+/// Writes the line of a fault. A failure to write it is not reported.
+pub fn show_fault<R: IoRuntime, F: Outlet>(rt: &R, faults: &mut F, fault: DemoFault)
+    ensures { IsFaultShown F.takes F.failures fault faults.old faults.new }
+{
+    let mut written = 0;
+    let _ = write_all(rt, faults, fault.line().as_bytes(), &mut written);
 }

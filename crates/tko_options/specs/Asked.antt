@@ -4,7 +4,7 @@ use Rattle.clap.specs.Takes.{takes}
 use Rattle.clap.specs.Words.{HasMatchesOf, subcommand_name_of}
 use Rattle.clap.specs.declared.parser.matches.ArgMatches.{ArgMatches}
 use Rattle.tko_options.specs.Commands.{IsCommandWith}
-use Rattle.tko_options.specs.Found.{AreCheckFound, AreDryFound, AreFound, is_log_place}
+use Rattle.tko_options.specs.Found.{AreCheckFound, AreDemoFound, AreDryFound, AreFound, is_log_place}
 use Rattle.tko_options.specs.Misfits.{AreMisread}
 use Rattle.tko_options.specs.Modes.{may_ask, may_group, may_limit}
 use Rattle.tko_options.specs.Program.{program_app}
@@ -22,6 +22,8 @@ AsksFor matches (asked.Serve options) =
     IsCommandWith (codes "serve") (λ found. AreFound found options) matches
 AsksFor matches (asked.Check options) =
     IsCommandWith (codes "check") (λ found. AreCheckFound found options) matches
+AsksFor matches (asked.Demo options) =
+    IsCommandWith (codes "demo") (λ found. AreDemoFound found options) matches
 
 -- a server has an event log where one can go
 abbrev pub names_log : Asked → Bool

@@ -5,6 +5,7 @@ use Rattle.clap.specs.Words.{first_value, matched_of, one_text, raw_values}
 use Rattle.clap.specs.declared.parser.matches.Found.{Found}
 use Rattle.tko_options.specs.Modes.{default_workers, mode_at}
 use Rattle.tko_options.specs.declared.check_options.CheckOptions.{CheckOptions}
+use Rattle.tko_options.specs.declared.demo_options.DemoOptions.{DemoOptions}
 use Rattle.tko_options.specs.declared.dry_options.DryOptions.{DryOptions}
 use Rattle.tko_options.specs.declared.serve_options.ServeOptions.{ServeOptions}
 
@@ -60,6 +61,10 @@ pub record AreCheckFound (found : Found) (options : CheckOptions) : Type 0 where
   pub config_file :
       option_map string_bytes options.config_file ≡ first_value found (codes "config-file")
   pub keys : map string_bytes options.keys.items ≡ texts_at found (codes "key")
+
+-- the option of `demo` is what clap read for its name
+abbrev pub AreDemoFound : Found → DemoOptions → Type 0
+AreDemoFound found options = IsSwitchAt found (codes "stay") options.stay
 
 -- where an event log goes: to standard error, or nowhere
 abbrev pub is_log_place : List ℕ → Bool

@@ -2,6 +2,7 @@ pub mod Asked
 pub mod CheckCommand
 pub mod CommandLine
 pub mod Commands
+pub mod DemoCommand
 pub mod Found
 pub mod Misfits
 pub mod Modes

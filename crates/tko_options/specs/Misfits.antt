@@ -48,7 +48,8 @@ IsUnfit found = IsRefusedAs (IsMisfit found)
 
 -- what is wrong with a command: there is none, or the options of `serve` are wrong
 pub data IsMisread (matches : ArgMatches) : Type 0 where
-  NoCommand : subcommand_name_of matches ≢ Some (codes "dry")
+  NoCommand : subcommand_name_of matches ≢ Some (codes "demo")
+      → subcommand_name_of matches ≢ Some (codes "dry")
       → subcommand_name_of matches ≢ Some (codes "replay")
       → subcommand_name_of matches ≢ Some (codes "serve")
       → subcommand_name_of matches ≢ Some (codes "check") → IsMisread matches

@@ -4,6 +4,7 @@ use Rattle.clap.specs.Simple.{on_top}
 use Rattle.clap.specs.Words.{App, new_app, with_subcommand}
 use Rattle.tko_options.specs.CheckCommand.{check_command}
 use Rattle.tko_options.specs.CommandLine.{dry_command, replay_command}
+use Rattle.tko_options.specs.DemoCommand.{demo_command}
 use Rattle.tko_options.specs.ServeCommand.{serve_command}
 
 -- the program with a version
@@ -16,5 +17,6 @@ named_program = on_top (λ shape. record shape { subcommand_required = true }) t
 
 abbrev pub program_app : App
 program_app =
-    with_subcommand (with_subcommand (with_subcommand (with_subcommand named_program
-    dry_command.top) replay_command.top) serve_command.top) check_command.top
+    with_subcommand (with_subcommand (with_subcommand (with_subcommand (with_subcommand
+    named_program demo_command.top) dry_command.top) replay_command.top) serve_command.top)
+    check_command.top

@@ -5,6 +5,7 @@ ghost use Rattle.tko_options.specs.Misfits.{IsRefusedFor};
 
 use crate::check_options::CheckOptions;
 use crate::command_line::program;
+use crate::demo_options::DemoOptions;
 use crate::dry_options::DryOptions;
 use crate::refusal::Refusal;
 use crate::serve_options::ServeOptions;
@@ -21,6 +22,7 @@ pub enum Asked {
     Replay,
     Serve(ServeOptions),
     Check(CheckOptions),
+    Demo(DemoOptions),
 }
 
 impl Asked {
@@ -56,6 +58,9 @@ impl Asked {
         }
         if let Some(found) = matches.subcommand_matches("check") {
             return Ok(Asked::Check(CheckOptions::of(alloc, found)?));
+        }
+        if let Some(found) = matches.subcommand_matches("demo") {
+            return Ok(Asked::Demo(DemoOptions::of(found)));
         }
         match matches.subcommand_matches("replay") {
             Some(_) => Ok(Asked::Replay),

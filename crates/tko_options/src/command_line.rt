@@ -5,6 +5,7 @@ ghost use Rattle.tko_options.specs.CommandLine.{IsOption, ReadsAs, config_file_o
 ghost use Rattle.tko_options.specs.Program.{named_program, program_app, titled_program};
 
 use crate::check_command::check;
+use crate::demo_command::demo;
 use crate::dry_command::dry;
 use crate::serve_command::serve;
 use clap::{Arg, ArgAction, Command, value_parser};
@@ -44,6 +45,7 @@ pub(crate) fn program<'a>(alloc: Global) -> Result<Command<'a>, AllocError>
     ensures { IfOk result (ReadsAs program_app) }
 {
     named(alloc)?
+        .subcommand(demo(alloc)?)?
         .subcommand(dry(alloc)?)?
         .subcommand(replay(alloc))?
         .subcommand(serve(alloc)?)?

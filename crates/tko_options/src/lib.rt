@@ -3,13 +3,15 @@
 //!
 //! - `Asked`: what the words ask for; `Refusal`: why they ask for nothing, or the help.
 //! - `Mode`: how a server serves its clients.
-//! - `DryOptions`, `ServeOptions`, `CheckOptions`: the options of the commands, a field for each.
+//! - `DryOptions`, `ServeOptions`, `CheckOptions`, `DemoOptions`: the options of the commands, a field for each.
 #![tactic(auto)]
 
 mod asked;
 mod check_command;
 mod check_options;
 mod command_line;
+mod demo_command;
+mod demo_options;
 mod dry_command;
 mod dry_options;
 mod fits;
@@ -22,6 +24,7 @@ mod serve_options;
 
 pub use asked::Asked;
 pub use check_options::CheckOptions;
+pub use demo_options::DemoOptions;
 pub use dry_options::DryOptions;
 pub use mode::Mode;
 pub use refusal::Refusal;

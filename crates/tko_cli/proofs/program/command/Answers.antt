@@ -6,7 +6,7 @@ use Rattle.tko_commands.specs.NotDone.{HasNotChecked, HasNotDried}
 use Rattle.tko_commands.specs.Replays.{ReplayFails}
 use Rattle.tko_options.specs.declared.asked.Asked.TheVariants as asked
 use Rattle.tko_options.specs.declared.refusal.Refusal.TheVariants as refusal
-use Rattle.tko_cli.specs.Endings.{AfterReason, Checked, Dried, HasNotServed, IsNotDone, NotCheckedFor, NotDriedFor, NotRead, NotReplayed, NotServedFor, NotShown, Served, Shown}
+use Rattle.tko_cli.specs.Endings.{AfterReason, Checked, Demonstrated, Dried, HasNotServed, IsNotDone, NotCheckedFor, NotDemonstrated, NotDriedFor, NotRead, NotReplayed, NotServedFor, NotShown, Served, Shown, WithFault}
 use Rattle.tko_cli.proofs.EndingLemmas.{asked_of, fault_as, refused_of}
 use Rattle.tko_cli.proofs.program.command.Goals as goal
 
@@ -28,6 +28,12 @@ returns-in-Ok-Check-clause-done g c = λ is.
     Checked options (asked_of c.read.result _ (asked.Check options) (search rules) c.read.ensures.read)
     (c.run_check.ensures.check is) refl (c.run_check.ensures.done is)
 
+pub returns-in-Ok-Demo-clause-done : goal.returns-in-Ok-Demo-clause-done
+returns-in-Ok-Demo-clause-done g c = λ is.
+    let options = c.in-Ok-Demo.options in
+    Demonstrated options (asked_of c.read.result _ (asked.Demo options) (search rules) c.read.ensures.read)
+    (c.run_demo.ensures.done is) (c.run_demo.ensures.silent is)
+
 pub returns-in-Err-Answer-clause-done : goal.returns-in-Err-Answer-clause-done
 returns-in-Err-Answer-clause-done g c = λ is.
     let shown = refusal.Answer c.in-Err-Answer.text in
@@ -42,47 +48,47 @@ returns-in-Ok-Dry-clause-fault g c = λ is.
     let options = c.in-Ok-Dry.options in
     let words = map string_bytes c.args.words.now in
     let asked_is = asked_of c.read.result _ (asked.Dry options) (search rules) c.read.ensures.read in
-    AfterReason (told_as g.F.Outlet.takes g.F.Outlet.failures (HasNotDried g.I.Inlet g.O.Outlet options (c.args.input.now, c.args.output.now) (c.run_dry.new.input, c.run_dry.new.output))
+    WithFault (AfterReason (told_as g.F.Outlet.takes g.F.Outlet.failures (HasNotDried g.I.Inlet g.O.Outlet options (c.args.input.now, c.args.output.now) (c.run_dry.new.input, c.run_dry.new.output))
     (IsNotDone g.I.Inlet g.O.Outlet words (c.args.input.now, c.args.output.now) (c.run_dry.new.input, c.run_dry.new.output)) c.args.faults.now c.run_dry.new.faults
-    (λ reason why. NotDriedFor options asked_is why) (c.run_dry.ensures.fault is))
+    (λ reason why. NotDriedFor options asked_is why) (c.run_dry.ensures.fault is)))
 
 pub returns-in-Ok-Replay-clause-fault : goal.returns-in-Ok-Replay-clause-fault
 returns-in-Ok-Replay-clause-fault g c = λ is.
     let words = map string_bytes c.args.words.now in
     let asked_is = asked_of c.read.result _ asked.Replay (search rules) c.read.ensures.read in
-    AfterReason (told_as g.F.Outlet.takes g.F.Outlet.failures
+    WithFault (AfterReason (told_as g.F.Outlet.takes g.F.Outlet.failures
     (ReplayFails g.I.Inlet.gives g.I.Inlet.is_ended g.I.Inlet.failures g.O.Outlet.failures c.args.input.now c.run_replay.new.input c.args.output.now c.run_replay.new.output)
     (IsNotDone g.I.Inlet g.O.Outlet words (c.args.input.now, c.args.output.now) (c.run_replay.new.input, c.run_replay.new.output)) c.args.faults.now c.run_replay.new.faults
-    (λ reason why. NotReplayed asked_is why) (c.run_replay.ensures.fault is))
+    (λ reason why. NotReplayed asked_is why) (c.run_replay.ensures.fault is)))
 
 pub returns-in-Ok-Serve-clause-fault : goal.returns-in-Ok-Serve-clause-fault
 returns-in-Ok-Serve-clause-fault g c = λ is.
     let options = c.in-Ok-Serve.options in
     let words = map string_bytes c.args.words.now in
     let asked_is = asked_of c.read.result _ (asked.Serve options) (search rules) c.read.ensures.read in
-    fault_as g.O.Outlet.takes g.O.Outlet.failures g.F.Outlet.takes g.F.Outlet.failures
+    WithFault (fault_as g.O.Outlet.takes g.O.Outlet.failures g.F.Outlet.takes g.F.Outlet.failures
     (HasNotServed g.O.Outlet.takes g.O.Outlet.failures options c.args.output.now c.run_server.new.output)
     (IsNotDone g.I.Inlet g.O.Outlet words (c.args.input.now, c.args.output.now) (c.args.input.now, c.run_server.new.output)) c.args.output.now c.run_server.new.output c.args.faults.now c.run_server.new.faults
-    (λ reason why. NotServedFor options asked_is why refl) (c.run_server.ensures.fault is)
+    (λ reason why. NotServedFor options asked_is why refl) (c.run_server.ensures.fault is))
 
 pub returns-in-Ok-Check-clause-fault : goal.returns-in-Ok-Check-clause-fault
 returns-in-Ok-Check-clause-fault g c = λ is.
     let options = c.in-Ok-Check.options in
     let words = map string_bytes c.args.words.now in
     let asked_is = asked_of c.read.result _ (asked.Check options) (search rules) c.read.ensures.read in
-    AfterReason (told_as g.F.Outlet.takes g.F.Outlet.failures
+    WithFault (AfterReason (told_as g.F.Outlet.takes g.F.Outlet.failures
     (HasNotChecked g.O.Outlet.failures options c.args.output.now c.run_check.new.output)
     (IsNotDone g.I.Inlet g.O.Outlet words (c.args.input.now, c.args.output.now) (c.args.input.now, c.run_check.new.output)) c.args.faults.now c.run_check.new.faults
-    (λ reason why. NotCheckedFor options asked_is why refl) (c.run_check.ensures.fault is))
+    (λ reason why. NotCheckedFor options asked_is why refl) (c.run_check.ensures.fault is)))
 
 pub returns-in-Err-Memory-clause-fault : goal.returns-in-Err-Memory-clause-fault
 returns-in-Err-Memory-clause-fault g c = λ is.
     let words = map string_bytes c.args.words.now in
     let refused = refused_of c.read.result words refusal.Memory (search rules) c.read.ensures.refused in
-    AfterReason (told_as g.F.Outlet.takes g.F.Outlet.failures
+    WithFault (AfterReason (told_as g.F.Outlet.takes g.F.Outlet.failures
     _
     (IsNotDone g.I.Inlet g.O.Outlet words (c.args.input.now, c.args.output.now) (c.args.input.now, c.args.output.now)) c.args.faults.now c.status_of.new.faults
-    (λ reason same. NotRead refused (cc) refl) (c.status_of.ensures.fault is))
+    (λ reason same. NotRead refused (cc) refl) (c.status_of.ensures.fault is)))
 
 pub returns-in-Err-Answer-clause-fault : goal.returns-in-Err-Answer-clause-fault
 returns-in-Err-Answer-clause-fault g c = λ is.
@@ -92,9 +98,15 @@ returns-in-Err-Answer-clause-fault g c = λ is.
     × (g.O.Outlet.failures c.args.output.now < g.O.Outlet.failures c.show-done.new.outlet) in
     let refused = refused_of c.read.result words shown (search rules) c.read.ensures.refused in
     let text = ap Some (sym c.as_str-in-Err-Answer.ensures.value) in
-    AfterReason (told_as g.F.Outlet.takes g.F.Outlet.failures (λ reason. c.show-done.result ≡ Err reason)
+    WithFault (AfterReason (told_as g.F.Outlet.takes g.F.Outlet.failures (λ reason. c.show-done.result ≡ Err reason)
     (IsNotDone g.I.Inlet g.O.Outlet words (c.args.input.now, c.args.output.now) (c.args.input.now, c.show-done.new.outlet)) c.args.faults.now c.status_of-in-Err-Answer.new.faults
     (λ reason same.
     let it = of_err failed c.show-done.result reason same c.show-done.ensures.err in
     NotShown shown c.as_str-in-Err-Answer.result.now refused text it.0 it.1 refl)
-    (c.status_of-in-Err-Answer.ensures.fault is))
+    (c.status_of-in-Err-Answer.ensures.fault is)))
+
+pub returns-in-Ok-Demo-clause-fault : goal.returns-in-Ok-Demo-clause-fault
+returns-in-Ok-Demo-clause-fault g c = λ is.
+    let options = c.in-Ok-Demo.options in
+    NotDemonstrated options (asked_of c.read.result _ (asked.Demo options) (search rules) c.read.ensures.read)
+    (c.run_demo.ensures.fault is)

@@ -1,7 +1,7 @@
 use Rattle.std.proofs.Common.{rules, codes, ◌≡◌, Some}
 use Rattle.std.proofs.lemmas.Result.{err_from_is_err_and}
 use Rattle.clap.specs.Words.{found_of, subcommand_name_of}
-use Rattle.tko_options.specs.Found.{AreCheckFound, AreDryFound, AreFound}
+use Rattle.tko_options.specs.Found.{AreCheckFound, AreDemoFound, AreDryFound, AreFound}
 use Rattle.tko_options.specs.Misfits.{IsMisfit, Unfit}
 use Rattle.tko_options.proofs.AskedLemmas.{is_command}
 use Rattle.tko_options.proofs.MisfitLemmas.{unfit_command}
@@ -40,3 +40,11 @@ returns-in-Some-subcommand_matches-2-clause-asks c =
     c.args.matches.now
     c.in-Some-subcommand_matches-2.found.now named
     c.in-Some-subcommand_matches-2.ensures.rows c.in_ok-of-3.ensures
+
+pub returns-in-Some-subcommand_matches-3-clause-asks :
+    goal.returns-in-Some-subcommand_matches-3-clause-asks
+returns-in-Some-subcommand_matches-3-clause-asks c =
+    let named : subcommand_name_of c.args.matches.now ≡ Some (codes "demo") = search rules in
+    is_command (codes "demo") (λ found. AreDemoFound found c.of-in-Some-subcommand_matches-3.result) c.args.matches.now
+    c.in-Some-subcommand_matches-3.found.now named
+    c.in-Some-subcommand_matches-3.ensures.rows c.of-in-Some-subcommand_matches-3.ensures
