@@ -2,6 +2,7 @@ pub mod Addresses
 pub mod Held
 pub mod Loads
 pub mod Loops
+pub mod Noted
 pub mod Offers
 pub mod Pauses
 pub mod Seats

@@ -26,13 +26,14 @@ pub record AllRest {K T P : Type 0} (now : ℕ) (servers : List Addresses)
   pub begun : (server : ℕ) → server < length servers → server < length worker.peers.items
       → IsWantedAt worker server → IsLookedUp (slice_get servers server)
 
--- the poll may wait so long from this moment: only where all rest, and not past the moment at which
--- a response is due; and a short time where a server's host is looked up for a connection
-pub record MayWait {K T P : Type 0} (now pause : ℕ) (servers : List Addresses)
+-- the poll may wait so long after a turn that judged by the first moment, where the next one judges
+-- by the second: only where all rest, and not past the moment at which a response is due; and a
+-- short time where a server's host is looked up for a connection
+pub record MayWait {K T P : Type 0} (judged next pause : ℕ) (servers : List Addresses)
     (worker : EventWorker (Held K) T P) : Type 0 where
-  pub rests : 0 < pause → AllRest now servers worker
+  pub rests : 0 < pause → AllRest judged servers worker
   pub due : 0 < pause → (server due : ℕ) → server < length worker.peers.items
-      → due_at worker.clients.mux.lines server ≡ Some due → now + pause ≤ due
+      → due_at worker.clients.mux.lines server ≡ Some due → next + pause ≤ due
   pub look_up : (server : ℕ) → server < length servers → server < length worker.peers.items
       → IsWantedAt worker server → pause ≤ longest_look_up
   pub within : pause ≤ longest

@@ -1,12 +1,14 @@
 //! The loop.
 ghost use Rattle.std.specs.Prelude.{◌≡◌, ◌<◌, ℕ, None, IfErr, IfOk, OnOk, length};
 ghost use Rattle.tko_roster.specs.Rosters.{session_at};
+ghost use Rattle.tko_pace.specs.TurnTimes.{HasTurnEnded};
 ghost use Rattle.tko_worker.specs.Workers.{IsInOrder};
 ghost use Rattle.tko_loop.specs.Held.{held_port};
-ghost use Rattle.tko_loop.specs.Loops.{CanTurn};
+ghost use Rattle.tko_loop.specs.Loops.{CanTurn, IsLoopTimed};
 ghost use Rattle.tko_loop.specs.Waits.{MayWait};
 
 use crate::connecting::connect_all;
+use crate::noted::NotedEvents;
 use crate::noting::note_all;
 use crate::offering::offer_again;
 use crate::pause::pause_after;
@@ -21,7 +23,7 @@ use std::alloc::{AllocError, Global};
 use std::io;
 use std::time::Duration;
 use tko_io::{Clock, IoRuntime, MonotonicClock};
-use tko_pace::ClientTime;
+use tko_pace::{ClientTime, TurnTimes};
 use tko_port::{SharedParts, Talking};
 use tko_socket::Socket;
 use tko_worker::EventWorker;
@@ -69,6 +71,8 @@ pub struct EventLoop<T, P, K> {
     times: Times,
     clock: MonotonicClock,
     limits: LoopLimits,
+    turns: TurnTimes,
+    noted: NotedEvents,
     /// The moment of the last turn, and how many milliseconds the poll may wait after it.
     moment: u64,
     pause: u64,
@@ -117,6 +121,8 @@ impl<P: Drop, T: Talking<P> + Drop, K: Drop> EventLoop<T, P, K> {
                 times: Times::new(alloc),
                 clock: MonotonicClock::new(rt),
                 limits,
+                turns: TurnTimes::new(limits.response),
+                noted: NotedEvents::none(),
                 moment: 0,
                 pause: 0,
                 walked: 0,
@@ -169,8 +175,9 @@ impl<P, T: Talking<P> + Drop, K: Drop> EventLoop<T, P, K> {
     ) -> io::Result<NextTurn>
         requires can { CanTurn (T.awaited, T.talk, held_port) T.ready self.old.buffer.items
             self.old.worker.clients }
-        ensures waits { OnOk result (MayWait self.new.moment self.new.pause
-            self.new.servers.items self.new.worker) }
+        ensures waits { OnOk result (MayWait self.new.turns.judged self.new.turns.next
+            self.new.pause self.new.servers.items self.new.worker) }
+        ensures times { OnOk result (IsLoopTimed self.old.turns self.new.moment self.new.turns) }
         ensures round { OnOk result ((before : P) × H.rounds before self.new.moment
             self.new.worker.clients.mux.roster.parts.parts) }
         ensures over { IfOk result (λ turn. turn ≡ NextTurn.Over → (number : ℕ)
@@ -181,22 +188,26 @@ impl<P, T: Talking<P> + Drop, K: Drop> EventLoop<T, P, K> {
     {
         let pause = Duration::from_millis(self.pause);
         self.entry.poll.poll(&mut self.events, Some(pause))?;
-        self.moment = self.clock.next(rt);
-        self.begin(rt, alloc);
+        let shown = self.clock.next(rt);
+        let is_noted = self.begin(rt, alloc);
+        self.turns.begin(shown, self.pause, is_noted);
+        self.moment = self.turns.moments().began();
         let intake = self.admit_all(rt, alloc, host);
         self.walk(alloc, host);
-        self.end(alloc, host, intake);
+        self.end(rt, alloc, host, intake);
         Ok(self.after(intake))
     }
 
-    /// Notes what came, and begins the connections that are wanted.
-    fn begin<R: IoRuntime>(&mut self, rt: &R, alloc: Global)
+    /// Notes what came, and begins the connections that are wanted. Returns whether all was noted
+    /// that had come before the poll.
+    fn begin<R: IoRuntime>(&mut self, rt: &R, alloc: Global) -> bool
         requires order { IsInOrder (T.awaited, T.talk, held_port) T.ready self.old.worker.clients }
         ensures buffer { self.new.buffer ≡ self.old.buffer }
+        ensures turns { self.new.turns ≡ self.old.turns }
         ensures order { IsInOrder (T.awaited, T.talk, held_port) T.ready self.new.worker.clients }
     {
         self.worker.begin_turn();
-        note_all(
+        let count = note_all(
             rt,
             &mut self.worker,
             &mut self.servers,
@@ -206,6 +217,8 @@ impl<P, T: Talking<P> + Drop, K: Drop> EventLoop<T, P, K> {
         );
         let registry = self.entry.poll.registry();
         connect_all(rt, &mut self.worker, &mut self.servers, registry);
+        let sockets = self.worker.clients.numbers().saturating_add(self.servers.len());
+        self.noted.note(count, EVENTS, sockets.saturating_add(1))
     }
 
     /// Takes in clients that other threads handed over.
@@ -217,6 +230,8 @@ impl<P, T: Talking<P> + Drop, K: Drop> EventLoop<T, P, K> {
     ) -> Intake
         requires order { IsInOrder (T.awaited, T.talk, held_port) T.ready self.old.worker.clients }
         ensures buffer { self.new.buffer ≡ self.old.buffer }
+        ensures turns { self.new.turns ≡ self.old.turns }
+        ensures moment { self.new.moment ≡ self.old.moment }
         ensures order { IsInOrder (T.awaited, T.talk, held_port) T.ready self.new.worker.clients }
     {
         for _ in 0..ADMISSIONS {
@@ -234,6 +249,8 @@ impl<P, T: Talking<P> + Drop, K: Drop> EventLoop<T, P, K> {
     fn admit<H: Host<P, T>>(&mut self, alloc: Global, host: &mut H, arrival: Arrival<K>)
         requires order { IsInOrder (T.awaited, T.talk, held_port) T.ready self.old.worker.clients }
         ensures buffer { self.new.buffer ≡ self.old.buffer }
+        ensures turns { self.new.turns ≡ self.old.turns }
+        ensures moment { self.new.moment ≡ self.old.moment }
         ensures order { IsInOrder (T.awaited, T.talk, held_port) T.ready self.new.worker.clients }
     {
         if self.take_in(alloc, host, arrival).is_none() {
@@ -250,6 +267,8 @@ impl<P, T: Talking<P> + Drop, K: Drop> EventLoop<T, P, K> {
     ) -> Option<usize>
         requires order { IsInOrder (T.awaited, T.talk, held_port) T.ready self.old.worker.clients }
         ensures buffer { self.new.buffer ≡ self.old.buffer }
+        ensures turns { self.new.turns ≡ self.old.turns }
+        ensures moment { self.new.moment ≡ self.old.moment }
         ensures order { IsInOrder (T.awaited, T.talk, held_port) T.ready self.new.worker.clients }
     {
         self.times.make_room(self.worker.clients.numbers()).ok()?;
@@ -272,6 +291,7 @@ impl<P, T: Talking<P> + Drop, K: Drop> EventLoop<T, P, K> {
         requires order { IsInOrder (T.awaited, T.talk, held_port) T.ready self.old.worker.clients }
         ensures buffer { self.new.buffer ≡ self.old.buffer }
         ensures moment { self.new.moment ≡ self.old.moment }
+        ensures turns { self.new.turns ≡ self.old.turns }
         ensures order { IsInOrder (T.awaited, T.talk, held_port) T.ready self.new.worker.clients }
     {
         if self.moment.saturating_sub(self.walked) < WALK {
@@ -290,25 +310,35 @@ impl<P, T: Talking<P> + Drop, K: Drop> EventLoop<T, P, K> {
         host.looked(&Load::of(&self.worker));
     }
 
-    /// Does what can be done, and decides how long the next turn may wait for events.
-    fn end<H: Host<P, T>>(&mut self, alloc: Global, host: &mut H, intake: Intake)
+    /// Does what can be done, and decides how long the next turn may wait for events. The clock is
+    /// read once all is written.
+    fn end<R: IoRuntime, H: Host<P, T>>(
+        &mut self,
+        rt: &R,
+        alloc: Global,
+        host: &mut H,
+        intake: Intake,
+    )
         requires can { CanTurn (T.awaited, T.talk, held_port) T.ready self.old.buffer.items
             self.old.worker.clients }
         ensures moment { self.new.moment ≡ self.old.moment }
-        ensures waits { MayWait self.new.moment self.new.pause
+        ensures waits { MayWait self.new.turns.judged self.new.turns.next self.new.pause
             self.new.servers.items self.new.worker }
+        ensures ended { HasTurnEnded self.old.turns self.new.turns }
         ensures round { (before : P) × H.rounds before self.new.moment
             self.new.worker.clients.mux.roster.parts.parts }
         ensures can { CanTurn (T.awaited, T.talk, held_port) T.ready self.new.buffer.items
             self.new.worker.clients }
     {
-        let due = self.moment.saturating_add(self.limits.response);
+        let moments = self.turns.moments();
         let buffer = self.buffer.as_mut_slice();
-        self.worker.serve(alloc, buffer, self.moment, due);
-        host.round(alloc, &mut self.worker, self.moment, due);
-        let mut ahead = self.worker.finish(self.moment);
-        ahead.rests &= intake != Intake::More;
-        self.pause = pause_after(&self.worker, &self.servers, ahead, self.moment);
+        self.worker.serve(alloc, buffer, moments);
+        host.round(alloc, &mut self.worker, self.moment, moments.due());
+        let mut ahead = self.worker.finish(moments.judged());
+        self.turns.end(self.clock.next(rt));
+        ahead.rests &= intake != Intake::More && self.turns.is_noted();
+        let next = self.turns.next();
+        self.pause = pause_after(&self.worker, &self.servers, ahead, moments.judged(), next);
     }
 
     /// The parts that all sessions shared, at the end. The clients, the connections to the servers

@@ -24,6 +24,7 @@ mod held;
 mod host;
 mod limits;
 mod load;
+mod noted;
 mod noting;
 mod offering;
 mod pause;

@@ -17,7 +17,7 @@ use tko_io::IoRuntime;
 use tko_port::Talking;
 use tko_worker::{EventWorker, Worker};
 
-/// Notes all events of a turn, each at the socket that it is for.
+/// Notes all events of a turn, each at the socket that it is for. Returns how many there are.
 pub(crate) fn note_all<R: IoRuntime, P, T: Talking<P> + Drop, K: Drop>(
     rt: &R,
     worker: &mut EventWorker<Held<K>, T, P>,
@@ -25,17 +25,20 @@ pub(crate) fn note_all<R: IoRuntime, P, T: Talking<P> + Drop, K: Drop>(
     seats: &Seats,
     alloc: Global,
     events: &Events,
-)
+) -> usize
     requires order { IsInOrder (T.awaited, T.talk, held_port) T.ready worker.old.clients }
     ensures order { IsInOrder (T.awaited, T.talk, held_port) T.ready worker.new.clients }
 {
+    let mut count: usize = 0;
     for event in events {
+        count = count.saturating_add(1);
         match target_of(servers.len(), event.token()) {
             Target::Waker => {}
             Target::Server(server) => note_server(rt, worker, servers, server, event),
             Target::Seat(seat) => note_client(worker, alloc, seats.number(seat), event),
         }
     }
+    count
 }
 
 /// Notes an event at a client's socket, if a client is there.

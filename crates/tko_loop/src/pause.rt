@@ -17,27 +17,29 @@ const IDLE_PAUSE: u64 = 100;
 /// The longest wait while the addresses of a server are looked up.
 const LOOK_UP_PAUSE: u64 = 10;
 
-/// How many milliseconds the poll may wait after a turn of this moment, at whose end this lies
-/// ahead of the worker, and more clients may wait to be taken in or not. A connection that is
-/// wanted is begun in the next turn, so that does not wait.
+/// How many milliseconds the poll may wait after a turn that judged by the first moment, where the
+/// next one judges by the second. At its end this lies ahead of the worker, and more clients may
+/// wait to be taken in or not. A connection that is wanted is begun in the next turn, so that does
+/// not wait.
 pub(crate) fn pause_after<P, T: Talking<P> + Drop, K: Drop>(
     worker: &EventWorker<Held<K>, T, P>,
     servers: &Vec<Addresses>,
     ahead: Outlook,
-    now: u64,
+    judged: u64,
+    next: u64,
 ) -> u64
     requires touched { worker.now.clients.touched ≡ [] }
     requires spent { OnTrue ahead.rests (worker.now.clients.spent ≡ []) }
-    requires servers { OnTrue ahead.rests (ServersRest held_port now worker.now.clients.mux.lines
+    requires servers { OnTrue ahead.rests (ServersRest held_port judged worker.now.clients.mux.lines
         worker.now.peers.items (length worker.now.peers.items)) }
     requires due { IsNextDue worker.now.clients.mux.lines (length worker.now.peers.items)
         ahead.due }
     requires wants { OnFalse ahead.wants (NoneWanted held_port worker.now.clients.mux.lines
         worker.now.peers.items (length worker.now.peers.items)) }
-    ensures { MayWait now result servers.now.items worker.now }
+    ensures { MayWait judged next result servers.now.items worker.now }
 {
     let most = longest_wait(worker, servers, ahead);
-    pause_of(most, ahead.due, now)
+    pause_of(most, ahead.due, next)
 }
 
 /// How long the poll may wait, where no response is due.

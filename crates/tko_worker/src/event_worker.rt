@@ -17,6 +17,7 @@ use crate::{Outlook, Worker};
 use std::alloc::Global;
 use tko_bytes::NoMemory;
 use tko_mux::{Asking, Came};
+use tko_pace::TurnMoments;
 use tko_pipe::Link;
 use tko_port::{ClientEvent, Guest, Peer, Port, SharedParts, Talking, is_connecting};
 
@@ -237,9 +238,9 @@ impl<P, L: Port + Drop, T: Talking<P> + Drop> EventWorker<L, T, P> {
     }
 
     /// Does what can be done in this turn for the clients: what came from the servers is read and
-    /// reaches them, late connections are shut, and the clients are served. A request that is sent
-    /// is due at the second moment. `finish` writes what they ask.
-    pub fn serve(&mut self, alloc: Global, buffer: &mut [u8], now: u64, due: u64)
+    /// reaches them, late connections are shut, and the clients are served. `finish` writes what
+    /// they ask.
+    pub fn serve(&mut self, alloc: Global, buffer: &mut [u8], moments: TurnMoments)
         requires room { 0 < length buffer.old }
         requires order { IsInOrder (T.awaited, T.talk, L.port) T.ready self.old.clients }
         ensures served { IsTurnServed (T.awaited, T.talk, L.port)
@@ -257,10 +258,9 @@ impl<P, L: Port + Drop, T: Talking<P> + Drop> EventWorker<L, T, P> {
             awake,
             alloc,
             buffer,
-            now,
-            due,
+            moments,
         );
-        self.clients.end_turn(alloc, due);
+        self.clients.end_turn(alloc, moments.due());
     }
 
     /// Writes to the servers what is asked of them, once, at the end of a turn. Returns what lies
@@ -295,8 +295,7 @@ fn serve_all<P, L: Port + Drop, T: Talking<P> + Drop>(
     awake: &[bool],
     alloc: Global,
     buffer: &mut [u8],
-    now: u64,
-    due: u64,
+    moments: TurnMoments,
 ) -> bool
     requires room { 0 < length buffer.old }
     requires order { IsInOrder (T.awaited, T.talk, L.port) T.ready clients.old }
@@ -312,7 +311,7 @@ fn serve_all<P, L: Port + Drop, T: Talking<P> + Drop>(
         if !is_set(awake, server) {
             continue;
         }
-        let its = clients.serve_server(alloc, &mut peers[server], server, now, due, buffer);
+        let its = clients.serve_server(alloc, &mut peers[server], server, moments, buffer);
         all = all && its;
     }
     all

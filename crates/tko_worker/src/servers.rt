@@ -11,6 +11,7 @@ ghost use Rattle.tko_worker.specs.Workers.{IsInOrder};
 use crate::Worker;
 use std::alloc::Global;
 use tko_mux::Asking;
+use tko_pace::TurnMoments;
 use tko_pipe::ShutCause;
 use tko_port::{
     ClientEvent, Guest, Peer, Port, SharedParts, Talking, has_unwritten, is_connecting, is_late,
@@ -67,32 +68,31 @@ impl<P, L: Port + Drop, T: Talking<P> + Drop> Worker<L, T, P> {
 
     /// Does for a server what can be done before the clients are served: those that waited on a
     /// connection that was shut leave; what its port has is read, and the responses reach their
-    /// clients; and a connection whose first response is late is shut. Returns whether that was
-    /// all.
+    /// clients; and then a connection whose first response is late is shut. Returns whether that
+    /// was all.
     pub(crate) fn serve_server(
         &mut self,
         alloc: Global,
         peer: &mut Peer<L>,
         server: usize,
-        now: u64,
-        due: u64,
+        moments: TurnMoments,
         buffer: &mut [u8],
     ) -> bool
         requires room { 0 < length buffer.old }
         requires order { IsInOrder (T.awaited, T.talk, L.port) T.ready self.old }
         ensures done { OnTrue result
             (IsServerDone ⟦<Guest<L, T> as Asking<SharedParts<P>>>⟧.waits_for self.new.mux server
-            (option_map L.port peer.new.socket) now) }
+            (option_map L.port peer.new.socket) moments.judged) }
         ensures held { IsHeld (option_map L.port peer.new.socket) (line_at self.new.mux server) }
         ensures acts { ActsInOrder (T.awaited, T.talk, L.port) T.ready self.old self.new }
     {
-        if !self.leave_all(alloc, peer, server, due) {
+        if !self.leave_all(alloc, peer, server, moments.due()) {
             return false;
         }
-        if !self.pull(alloc, peer, server, now, due, buffer) {
+        if !self.pull(alloc, peer, server, moments, buffer) {
             return false;
         }
-        !self.expire(peer, server, now)
+        !self.expire(peer, server, moments.judged())
     }
 
     /// All that waited on a connection that was shut leave. Returns whether none is left.
@@ -141,8 +141,7 @@ impl<P, L: Port + Drop, T: Talking<P> + Drop> Worker<L, T, P> {
         alloc: Global,
         peer: &mut Peer<L>,
         server: usize,
-        now: u64,
-        due: u64,
+        moments: TurnMoments,
         buffer: &mut [u8],
     ) -> bool
         requires room { 0 < length buffer.old }
@@ -155,10 +154,10 @@ impl<P, L: Port + Drop, T: Talking<P> + Drop> Worker<L, T, P> {
         ensures acts { ActsInOrder (T.awaited, T.talk, L.port) T.ready self.old self.new }
     {
         for _ in 0..READS {
-            if !self.take_all(alloc, peer, server, due) {
+            if !self.take_all(alloc, peer, server, moments.due()) {
                 return false;
             }
-            if !self.read(peer, server, now, buffer) {
+            if !self.read(peer, server, moments.began(), buffer) {
                 return true;
             }
         }
@@ -221,9 +220,11 @@ impl<P, L: Port + Drop, T: Talking<P> + Drop> Worker<L, T, P> {
     }
 
     /// Shuts the connection to a server if its first response is late at this moment, and returns
-    /// whether it is.
+    /// whether it is. Before, all that came from the server has to be read and taken.
     fn expire(&mut self, peer: &mut Peer<L>, server: usize, now: u64) -> bool
         requires open { IsOpen (line_at self.old.mux server) }
+        requires drained { IsDrained ⟦<Guest<L, T> as Asking<SharedParts<P>>>⟧.waits_for
+            self.old.mux server (option_map L.port peer.old.socket) }
         requires order { IsInOrder (T.awaited, T.talk, L.port) T.ready self.old }
         ensures late { IsShutIfLate server now self.old peer.old peer.new result self.new }
         ensures held { IsHeld (option_map L.port peer.new.socket) (line_at self.new.mux server) }

@@ -13,7 +13,7 @@ loop-server-preserved g c = record {
       (c.serve_server-its.new.self.mux.roster, c.serve_server-its.new.self.ends)
       c.loop-server.invariant.acted c.serve_server-its.ensures.acts.acted;
   taken = taken_next (g.T.Talking.awaited, g.T.Talking.talk, g.L.Port.port)
-      (λ guest. g.T.Talking.waits_for guest.talk) c.args.awake.now c.loop-server.server c.args.now _
+      (λ guest. g.T.Talking.waits_for guest.talk) c.args.awake.now c.loop-server.server c.args.moments.judged _
       c.loop-server.all c.serve_server-its.result _ _
       c.loop-server.clients c.serve_server-its.new.self (search rules) c.loop-server.invariant.acted
       c.serve_server-its.ensures.acts.acted c.loop-server.invariant.taken

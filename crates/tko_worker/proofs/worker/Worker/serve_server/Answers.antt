@@ -1,12 +1,19 @@
+use Rattle.std.proofs.Common.{◌≡◌, false, subst}
+use Rattle.std.specs.Bool.{OnFalse}
+use Rattle.tko_mux.specs.Muxes.{line_at}
+use Rattle.tko_port.specs.Wires.{first_at, is_first_late}
 use Rattle.tko_worker.proofs.TakenLemmas.{still_done}
 use Rattle.tko_worker.proofs.ActedLemmas.{acted_on, lines_acted}
 use Rattle.tko_worker.proofs.worker.Worker.serve_server.Goals as goal
 
 pub returns-clause-done : goal.returns-clause-done
 returns-clause-done g c =
-    still_done g.L.Port.port (λ guest. g.T.Talking.waits_for guest.talk) c.args.now
+    still_done g.L.Port.port (λ guest. g.T.Talking.waits_for guest.talk) c.args.moments.judged
     c.pull.new.self c.expire.new.self c.pull.new.peer c.expire.new.peer c.args.server
-    c.expire.result c.expire.ensures.late.kept c.expire.ensures.late.time
+    c.expire.result c.expire.ensures.late.kept
+    (subst (λ now. OnFalse c.expire.result
+    (is_first_late (first_at (line_at c.pull.new.self.mux c.args.server)) now ≡ false))
+    c.judged.ensures c.expire.ensures.late.time)
     c.if-not-pull.ensures.drained
 
 pub returns-then-not-pull-clause-acts : goal.returns-then-not-pull-clause-acts
