@@ -11,7 +11,7 @@ use Rattle.tko_text.specs.declared.request.Request.{Request}
 use Rattle.tko_text.specs.declared.response.Response.{Response}
 use Rattle.tko_pipe.specs.declared.fates.Fate.{Fate}
 use Rattle.tko_pipe.specs.declared.fates.ShutCause.{ShutCause}
-use Rattle.tko_pipe.specs.declared.fates.ShutCause.TheVariants.{EndOfInput, Fault, Silent, Late, Unreadable, Unasked, Memory}
+use Rattle.tko_pipe.specs.declared.fates.ShutCause.TheVariants.{EndOfInput, Fault, Silent, Late, Unreadable, Unasked, Memory, Lacking}
 use Rattle.tko_pipe.specs.declared.waiter.Asker.{Asker}
 use Rattle.tko_pipe.specs.Ends.{ExpireEnds, GotEnds, IsChecked, TakeEnds}
 use Rattle.tko_pipe.specs.Pipes.{IsShut, Shutting, is_asked}
@@ -96,6 +96,7 @@ take_leaves old new request (Err Fault) ends = absurd ends
 take_leaves old new request (Err (Silent now)) ends = absurd ends
 take_leaves old new request (Err (Late now)) ends = absurd ends
 take_leaves old new request (Err Unasked) ends = absurd ends
+take_leaves old new request (Err Lacking) ends = absurd ends
 
 -- who waits on a line where nobody leaves is who waits on its connection
 none_leave : (line : LineState) (pipe : PipeState) → line.ended ≡ None → line.pipe ≡ Some pipe
@@ -161,6 +162,7 @@ got_waits bytes now (Err Fault) was it ends = absurd ends
 got_waits bytes now (Err (Silent at)) was it ends = absurd ends
 got_waits bytes now (Err (Late at)) was it ends = absurd ends
 got_waits bytes now (Err Unreadable) was it ends = absurd ends
+got_waits bytes now (Err Lacking) was it ends = absurd ends
 
 pub expire_waits : (now : ℕ) (result : Option ShutCause) (was it : PipeState)
     → ExpireEnds was now result it → it.waiters ≡ was.waiters

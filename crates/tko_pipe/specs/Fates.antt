@@ -7,7 +7,7 @@ use Rattle.tko_pipe.specs.declared.fates.Fate.{Fate}
 use Rattle.tko_pipe.specs.declared.fates.Fate.TheVariants as fate
 use Rattle.tko_pipe.specs.declared.fates.Fates.{Fates}
 use Rattle.tko_pipe.specs.declared.fates.ShutCause.{ShutCause}
-use Rattle.tko_pipe.specs.declared.fates.ShutCause.TheVariants.{EndOfInput, Fault, Silent, Late, Unreadable, Unasked, Memory}
+use Rattle.tko_pipe.specs.declared.fates.ShutCause.TheVariants.{EndOfInput, Fault, Silent, Late, Unreadable, Unasked, Memory, Lacking}
 use Rattle.tko_pipe.specs.declared.link.Link.{Link}
 use Rattle.tko_pipe.specs.declared.link.Link.TheVariants.{Connecting}
 
@@ -29,10 +29,12 @@ fates_connected (Late now) = fates fate.Timeout (LateAt now)
 fates_connected Unreadable = fates fate.Broken (Each fate.Aborted)
 fates_connected Unasked = fates fate.Broken (Each fate.Aborted)
 fates_connected Memory = fates fate.Memory (Each fate.Aborted)
+fates_connected Lacking = fates fate.Aborted (Each fate.Aborted)
 
 -- not yet connected, and shut for this cause
 abbrev pub fates_connecting : ShutCause → Fates
 fates_connecting Memory = fates fate.Memory (Each fate.Aborted)
+fates_connecting Lacking = fates fate.Aborted (Each fate.Aborted)
 fates_connecting _ = fates fate.Refused (Each fate.Refused)
 
 -- the table

@@ -21,6 +21,9 @@ pub enum ShutCause {
     Unasked,
     /// Memory ran out for the connection.
     Memory,
+    /// The proxy itself lacked what a connection takes of the system, such as a port or a
+    /// descriptor.
+    Lacking,
 }
 
 /// What became of a request whose connection was shut before its response came.
@@ -32,8 +35,8 @@ pub enum Fate {
     Timeout,
     /// The server or the connection failed at this request.
     Broken,
-    /// The connection was shut for what happened to another request. It says nothing about the
-    /// server.
+    /// The connection was shut for what happened to another request, or for what the proxy itself
+    /// lacked. It says nothing about the server.
     Aborted,
     /// Memory ran out while this response was read.
     Memory,
@@ -86,6 +89,7 @@ impl Fates {
     {
         match (link, cause) {
             (_, ShutCause::Memory) => Fates::new(Fate::Memory, Behind::Each(Fate::Aborted)),
+            (_, ShutCause::Lacking) => Fates::new(Fate::Aborted, Behind::Each(Fate::Aborted)),
             (Link::Connecting, _) => Fates::new(Fate::Refused, Behind::Each(Fate::Refused)),
             (_, ShutCause::Silent(_)) => Fates::new(Fate::Timeout, Behind::Each(Fate::Timeout)),
             (_, ShutCause::Late(now)) => Fates::new(Fate::Timeout, Behind::LateAt(now)),

@@ -180,11 +180,11 @@ pub data HasConnected (server : ℕ) (old : List LineState) (port : Option PortS
   unbegun : link_at (slice_get old server) ≢ Some Connecting → new ≡ old → after ≡ port
       → HasConnected server old port new after
 
--- a connection to a server that was being made was shut, since that failed; or none was being made
-pub data HasFailed (server : ℕ) (old new : List LineState) : Type 0 where
-  failed : IsGivenUp old server cause.Fault new → HasFailed server old new
+-- a connection to a server that was being made was shut for this cause; or none was being made
+pub data HasFailed (server : ℕ) (why : ShutCause) (old new : List LineState) : Type 0 where
+  failed : IsGivenUp old server why new → HasFailed server why old new
   unbegun : (IsOpen (slice_get old server) → link_at (slice_get old server) ≢ Some Connecting)
-      → new ≡ old → HasFailed server old new
+      → new ≡ old → HasFailed server why old new
 
 -- the connection to a server, whose first response is late at this moment, was shut
 pub record HasExpired (server now : ℕ) (old new : List LineState) : Type 0 where

@@ -9,7 +9,7 @@ ghost use Rattle.tko_worker.specs.Changes.{OnlyLinesChange};
 ghost use Rattle.tko_worker.specs.Connections.{has_socket};
 ghost use Rattle.tko_worker.specs.Taking.{AreTaken, IsTurnServed, is_flag_set};
 ghost use Rattle.tko_worker.specs.Turns.{AreFinished, IsAhead, IsNothingLeft, IsWanted, OtherPeers, probed_at, socket_at};
-ghost use Rattle.tko_port.specs.Wires.{CannotWriteTo, HasConnected, HasFailed, IsOpen, OtherLines, link_at};
+ghost use Rattle.tko_port.specs.Wires.{CannotWriteTo, HasConnected, HasFailed, IsOpen, OtherLines, due_at, link_at};
 ghost use Rattle.tko_worker.specs.Workers.{IsInOrder};
 
 use crate::resting::{is_quiet, is_wanted, none_is_left};
@@ -18,8 +18,8 @@ use std::alloc::Global;
 use tko_bytes::NoMemory;
 use tko_mux::{Asking, Came};
 use tko_pace::TurnMoments;
-use tko_pipe::Link;
-use tko_port::{ClientEvent, Guest, Peer, Port, SharedParts, Talking, is_connecting};
+use tko_pipe::{Link, ShutCause};
+use tko_port::{ClientEvent, Guest, Peer, Port, SharedParts, Talking, first_due, is_connecting};
 
 /// The clients of a worker, and the sockets to its servers. A turn of events begins by
 /// `begin_turn`; then what came is noted, `serve` does what can be done for the clients, and
@@ -122,18 +122,39 @@ impl<P, L: Port + Drop, T: Talking<P> + Drop> EventWorker<L, T, P> {
         }
     }
 
-    /// No connection to a server could be made.
+    /// No connection to a server could be made, which is the server's failure.
     pub fn failed(&mut self, server: usize)
         requires order { IsInOrder (T.awaited, T.talk, L.port) T.ready self.old.clients }
         ensures done { server < length self.old.peers.items
-            → HasFailed server self.old.clients.mux.lines self.new.clients.mux.lines }
+            → HasFailed server ShutCause.Fault self.old.clients.mux.lines
+            self.new.clients.mux.lines }
         ensures others { OtherPeers server self.old.peers.items self.new.peers.items }
         ensures count { length self.new.peers.items ≡ length self.old.peers.items }
         ensures clients { OnlyLinesChange self.old.clients self.new.clients }
         ensures order { IsInOrder (T.awaited, T.talk, L.port) T.ready self.new.clients }
     {
         if server < self.peers.len() {
-            self.clients.fail(&mut self.peers[server], server);
+            self.clients
+                .fail(&mut self.peers[server], server, ShutCause::Fault);
+            set(&mut self.awake, server, true);
+        }
+    }
+
+    /// No connection to a server could be made, since the proxy itself lacked what it takes of the
+    /// system. It is no failure of the server.
+    pub fn lacked(&mut self, server: usize)
+        requires order { IsInOrder (T.awaited, T.talk, L.port) T.ready self.old.clients }
+        ensures done { server < length self.old.peers.items
+            → HasFailed server ShutCause.Lacking self.old.clients.mux.lines
+            self.new.clients.mux.lines }
+        ensures others { OtherPeers server self.old.peers.items self.new.peers.items }
+        ensures count { length self.new.peers.items ≡ length self.old.peers.items }
+        ensures clients { OnlyLinesChange self.old.clients self.new.clients }
+        ensures order { IsInOrder (T.awaited, T.talk, L.port) T.ready self.new.clients }
+    {
+        if server < self.peers.len() {
+            self.clients
+                .fail(&mut self.peers[server], server, ShutCause::Lacking);
             set(&mut self.awake, server, true);
         }
     }
@@ -167,6 +188,13 @@ impl<P, L: Port + Drop, T: Talking<P> + Drop> EventWorker<L, T, P> {
             (link_at (line_at self.now.clients.mux server) ≢ Some Link.Connecting) }
     {
         is_connecting(&self.clients.mux, server)
+    }
+
+    /// When the first response of a server is due, if one is awaited.
+    pub fn due(&self, server: usize) -> Option<u64>
+        ensures { result ≡ due_at self.now.clients.mux.lines server }
+    {
+        first_due(&self.clients.mux, server)
     }
 
     /// The connection to a server could not be made on this socket, which is closed. Those that

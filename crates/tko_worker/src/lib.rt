@@ -21,5 +21,5 @@ mod worker;
 pub use ends::EndCounts;
 pub use event_worker::EventWorker;
 pub use law::{acts_compose, clients_act};
-pub use resting::Outlook;
+pub use resting::{Outlook, earlier};
 pub use worker::Worker;

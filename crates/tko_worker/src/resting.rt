@@ -88,8 +88,8 @@ pub(crate) fn is_wanted<P, S: Asking<P> + Drop, L: Port + Drop>(
     is_connecting(mux, server)
 }
 
-/// The first of two moments.
-fn earlier(one: Option<u64>, other: Option<u64>) -> Option<u64>
+/// The first of two moments, if there is one.
+pub fn earlier(one: Option<u64>, other: Option<u64>) -> Option<u64>
     ensures { result ≡ earlier one other }
 {
     let Some(first) = one else {

@@ -2,6 +2,7 @@
 ghost use Rattle.std.specs.Prelude.{◌≡◌, ◌<◌, None, length, option_map};
 ghost use Rattle.std.specs.Bool.{OnFalse, OnTrue};
 ghost use Rattle.tko_mux.specs.Muxes.{MayShut, line_at};
+ghost use Rattle.tko_pipe.specs.Pipes.{IsCause, PipeState};
 ghost use Rattle.tko_worker.specs.Acts.{ActsInOrder, HasActed};
 ghost use Rattle.tko_worker.specs.Changes.{OnlyLinesChange};
 ghost use Rattle.tko_worker.specs.Servers.{HasNoResponse, IsDrained, IsReadOnce, IsServerDone, IsShutIfLate};
@@ -47,10 +48,11 @@ impl<P, L: Port + Drop, T: Talking<P> + Drop> Worker<L, T, P> {
         self.mux.connected(server);
     }
 
-    /// The connection to a server could not be made, if one was begun.
-    pub(crate) fn fail(&mut self, peer: &mut Peer<L>, server: usize)
+    /// The connection to a server could not be made, for this cause, if one was begun.
+    pub(crate) fn fail(&mut self, peer: &mut Peer<L>, server: usize, why: ShutCause)
+        requires cause { (pipe : PipeState) → IsCause pipe why }
         requires order { IsInOrder (T.awaited, T.talk, L.port) T.ready self.old }
-        ensures done { HasFailed server self.old.mux.lines self.new.mux.lines }
+        ensures done { HasFailed server why self.old.mux.lines self.new.mux.lines }
         ensures held { IsHeld (option_map L.port peer.new.socket) (line_at self.new.mux server) }
         ensures clients { OnlyLinesChange self.old self.new }
         ensures order { IsInOrder (T.awaited, T.talk, L.port) T.ready self.new }
@@ -62,7 +64,7 @@ impl<P, L: Port + Drop, T: Talking<P> + Drop> Worker<L, T, P> {
         if !is_connecting(&self.mux, server) {
             return;
         }
-        self.mux.shut(server, ShutCause::Fault);
+        self.mux.shut(server, why);
         peer.hold(is_open(&self.mux, server));
     }
 
