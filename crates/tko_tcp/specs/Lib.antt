@@ -1,5 +1,6 @@
 pub mod ExchangeTimes
 pub mod Hosts
+pub mod Lacks
 pub mod ProbeTimes
 pub mod ServerHosts
 pub mod TcpAddresses

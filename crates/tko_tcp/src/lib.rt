@@ -10,22 +10,27 @@
 mod addresses;
 mod exchange_time;
 mod host_state;
+mod lack;
 mod laws;
 mod limited_stream;
 mod named_host;
 mod names;
 mod probe_time;
+mod reached;
 mod server_host;
+mod shares;
 mod tcp_address;
 mod tcp_connect;
 mod tcp_connection;
 mod tcp_server;
 mod tcp_wire;
 
+pub use lack::{Lack, lack_of};
 pub use laws::tcp_counts;
 pub use named_host::NamedHost;
 pub use names::Names;
 pub use server_host::{Known, ServerHost};
+pub use shares::share_until;
 pub use tcp_wire::{TcpLinks, TcpWire};
 
 #[cfg(test)]

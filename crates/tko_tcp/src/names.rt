@@ -9,6 +9,7 @@ ghost use Rattle.tko_tcp.specs.ServerHosts.{name_at};
 use crate::addresses::ResolvedAddresses;
 use crate::exchange_time::ExchangeTime;
 use crate::host_state::{ConnectStep, HostState};
+use crate::reached::ReachedServer;
 use crate::tcp_address::host_and_port;
 use std::alloc::{AllocError, Global};
 use std::net::IpAddr;
@@ -32,6 +33,8 @@ pub struct Names {
 #[derive(Drop)]
 struct SharedNames {
     hosts: Vec<HostEntry>,
+    /// The servers at these hosts.
+    servers: Vec<ReachedServer>,
     /// Changes whenever a look-up is requested, and by `end`.
     asks: AtomicU64,
     /// Changes whenever a look-up has ended.
@@ -50,13 +53,16 @@ impl Names {
     /// The named hosts of these addresses, each once. Requests a look-up of each.
     pub fn open(alloc: Global, addresses: &[String]) -> Result<Names, NoMemory> {
         let mut hosts = Vec::new(alloc);
+        let mut servers = Vec::new(alloc);
         for address in addresses {
             if let Some(name) = name_in(address.as_str()) {
                 add(alloc, &mut hosts, name)?;
+                servers.push(ReachedServer::new(alloc, address.as_str())?)?;
             }
         }
         let shared = SharedNames {
             hosts,
+            servers,
             asks: AtomicU64::new(0),
             answers: AtomicU64::new(0),
             is_ended: AtomicBool::new(false),
@@ -139,6 +145,24 @@ impl Names {
             }
         }
         None
+    }
+
+    /// The index of the server with this address, if its host has a name.
+    pub(crate) fn server_at(&self, address: &str) -> Option<usize> {
+        self.shared.servers.iter().position(|it| it.is_at(address))
+    }
+
+    /// At which of its host's addresses a connection to the server with this index was made last,
+    /// by any worker.
+    pub(crate) fn reached(&self, server: usize) -> Option<usize> {
+        self.shared.servers.get(server)?.place()
+    }
+
+    /// A connection to the server with this index was made at this one of its host's addresses.
+    pub(crate) fn reach(&self, server: usize, place: usize) {
+        if let Some(it) = self.shared.servers.get(server) {
+            it.reach(place);
+        }
     }
 
     /// What a connect to the host at `place` does next, for a caller that must not wait. If no

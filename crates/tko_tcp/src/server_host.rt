@@ -47,7 +47,8 @@ impl Names {
         let Some(place) = self.place(host) else {
             return Ok(ServerHost::Nowhere);
         };
-        let host = NamedHost::new(self.another()?, place, port);
+        let server = self.server_at(address);
+        let host = NamedHost::new(self.another()?, place, port, server);
         Ok(ServerHost::Named(host))
     }
 }

@@ -28,30 +28,49 @@ pub(crate) fn connect<R: IoRuntime>(
     let Some(addresses) = names.addresses(rt, host, time) else {
         return Err(Error::from(ErrorKind::AddrNotAvailable));
     };
-    let connected = connect_any(rt, addresses.as_slice(), port, time);
-    if connected.is_err() {
-        names.ask(rt, host);
+    let server = names.server_at(address);
+    let first = server.and_then(|server| names.reached(server)).unwrap_or(0);
+    match connect_any(rt, addresses.as_slice(), first, port, time) {
+        Ok((stream, place)) => {
+            if let Some(server) = server {
+                names.reach(server, place);
+            }
+            Ok(stream)
+        }
+        Err(error) => {
+            names.ask(rt, host);
+            Err(error)
+        }
     }
-    connected
 }
 
-/// Connects to the first of these addresses that accepts. Each gets an equal part of the time that
-/// is left, so that one that does not answer leaves time for those after it.
+/// Connects to the first of these addresses that accepts, and returns which one that is. They are
+/// tried in turn from this place on. Each gets an equal part of the time that is left, so that one
+/// that does not answer leaves time for those after it.
 fn connect_any<R: IoRuntime>(
     rt: &R,
     addresses: &[SocketAddr],
+    first: usize,
     port: u16,
     time: &ExchangeTime,
-) -> Result<TcpStream> {
+) -> Result<(TcpStream, usize)> {
     let mut last = Error::from(ErrorKind::AddrNotAvailable);
     let mut untried = u32::try_from(addresses.len()).unwrap_or(u32::MAX);
-    for address in addresses {
+    let mut place = first;
+    for _ in addresses {
+        if addresses.len() <= place {
+            place = 0;
+        }
+        let Some(address) = addresses.get(place) else {
+            break;
+        };
         let mut address = *address;
         address.set_port(port);
         match connect_one(rt, address, time, untried) {
-            Ok(stream) => return Ok(stream),
+            Ok(stream) => return Ok((stream, place)),
             Err(error) => last = error,
         }
+        place = place.saturating_add(1);
         untried = untried.saturating_sub(1);
     }
     Err(last)

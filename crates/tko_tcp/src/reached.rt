@@ -1,0 +1,40 @@
+//! Where a server was reached last, for all that connect to it.
+
+use std::alloc::{AllocError, Global};
+use std::sync::atomic::{AtomicU64, Ordering};
+
+/// A server at a host with a name, and at which of the host's addresses a connection to it was made
+/// last. All workers share it. It is a hint: a look-up may have changed the addresses since.
+#[derive(Drop)]
+pub(crate) struct ReachedServer {
+    address: String,
+    /// One more than the place of that address; 0 before the first connection.
+    reached: AtomicU64,
+}
+
+impl ReachedServer {
+    /// The server with this address, to which no connection was made yet.
+    pub(crate) fn new(alloc: Global, address: &str) -> Result<ReachedServer, AllocError> {
+        Ok(ReachedServer {
+            address: String::from_str(alloc, address)?,
+            reached: AtomicU64::new(0),
+        })
+    }
+
+    /// Whether this is its address.
+    pub(crate) fn is_at(&self, address: &str) -> bool {
+        self.address.as_str() == address
+    }
+
+    /// The place of the address at which a connection was made last.
+    pub(crate) fn place(&self) -> Option<usize> {
+        let reached = self.reached.load(Ordering::SeqCst);
+        usize::try_from(reached.checked_sub(1)?).ok()
+    }
+
+    /// A connection was made at the address with this place.
+    pub(crate) fn reach(&self, place: usize) {
+        let reached = (place as u64).saturating_add(1);
+        self.reached.store(reached, Ordering::SeqCst);
+    }
+}
