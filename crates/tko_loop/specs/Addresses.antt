@@ -1,5 +1,5 @@
 -- The addresses of a server, in turn.
-use Rattle.std.specs.Prelude.{◌≡◌, ◌+◌, ◌&&◌, nat_le, nat_lt, if◌then◌else◌, ℕ, List, [], ◌∷◌, Option, Some, None, Result, Ok, Err, IfOk, OnErr, length, slice_get}
+use Rattle.std.specs.Prelude.{◌≡◌, ◌==◌, ◌+◌, ◌-◌, ◌&&◌, ◌||◌, not, nat_le, nat_lt, if◌then◌else◌, ℕ, Bool, true, false, List, [], ◌∷◌, Option, Some, None, Result, Ok, Err, IfOk, OnErr, length, slice_get, unwrap_or}
 use Rattle.std.specs.declared.net.socket_addr.SocketAddr.{SocketAddr}
 use Rattle.std.specs.Net.Socket.{socket_flowinfo, socket_ip, socket_port, socket_scope_id}
 use Rattle.tko_bytes.specs.Numbers.{capped}
@@ -9,10 +9,13 @@ use Rattle.tko_tcp.specs.declared.server_host.Known.{Known}
 use Rattle.tko_tcp.specs.declared.server_host.Known.TheVariants as known
 use Rattle.tko_tcp.specs.declared.server_host.ServerHost.{ServerHost}
 use Rattle.tko_tcp.specs.declared.server_host.ServerHost.TheVariants as at
+use Rattle.tko_tcp.specs.ExchangeTimes.{share_of}
 use Rattle.tko_tcp.specs.ServerHosts.{IsLearned}
 use Rattle.tko_loop.specs.declared.addresses.Addresses.{Addresses}
 use Rattle.tko_loop.specs.declared.addresses.Reach.{Reach}
 use Rattle.tko_loop.specs.declared.addresses.Reach.TheVariants.{At, Later, Nowhere}
+use Rattle.tko_loop.specs.declared.addresses.Unmade.{Unmade}
+use Rattle.tko_loop.specs.declared.addresses.Unmade.TheVariants.{Lacking, Next, Refused}
 
 -- at this host, or at these addresses, before the first connection
 pub record AreFreshAddresses (host : Option NamedHost) (all : List SocketAddr) (it : Addresses)
@@ -21,6 +24,8 @@ pub record AreFreshAddresses (host : Option NamedHost) (all : List SocketAddr) (
   pub all_are : it.all.items ≡ all
   pub next : it.next ≡ 0
   pub tried : it.tried ≡ 0
+  pub reached : it.reached ≡ None
+  pub until : it.until ≡ None
   pub awaited : it.awaited ≡ None
 
 -- the addresses of a server that is at one address or at a host, or at none
@@ -60,13 +65,34 @@ pub record IsKnown (old new : Addresses) : Type 0 where
   pub lacking : OnErr told (new.all.items ≡ old.all.items)
   pub awaited : new.awaited ≡ awaited_of told
 
+-- what was found, or else what was known
+abbrev pub found_or : (found known : Option ℕ) → Option ℕ
+found_or None known = known
+found_or (Some place) known = Some place
+
+-- where the server was reached last once all addresses are to be tried, by what another worker may
+-- have found
+abbrev pub reached_of : (tried : ℕ) → (found reached : Option ℕ) → Option ℕ
+reached_of tried found reached = if tried == 0 then found_or found reached else reached
+
+-- all are tried from that one on
+abbrev pub first_place_of : (tried : ℕ) → (reached : Option ℕ) → (next : ℕ) → ℕ
+first_place_of tried reached next = if tried == 0 then unwrap_or reached next else next
+
 -- the addresses of a host are those that are known now
 pub record IsLookedAt (old new : Addresses) : Type 0 where
   pub known : IsKnown old new
-  pub place : new.next ≡ place_in (length new.all.items) old.next
   pub tried : new.tried ≡ tried_of (length old.all.items) old.tried
-  pub last : new.last ≡ old.last
-  pub host : new.host ≡ old.host
+  pub found : Option ℕ
+  pub reached : new.reached ≡ reached_of new.tried found old.reached
+  pub place : new.next ≡ place_in (length new.all.items) (first_place_of new.tried new.reached old.next)
+  pub others : new ≡ record old {
+    all = new.all;
+    next = new.next;
+    tried = new.tried;
+    reached = new.reached;
+    awaited = new.awaited;
+  }
 
 -- the same, where the server may be at no host that is looked up
 abbrev pub IsRenewedAt : Option NamedHost → Addresses → Addresses → Type 0
@@ -88,13 +114,55 @@ abbrev pub IsListedAs : Option NamedHost → SocketAddr → SocketAddr → Type 
 IsListedAs None listed address = address ≡ listed
 IsListedAs (Some host) listed address = IsAtPort host.port listed address
 
--- the address at a place is taken, and the next one is that after it
+-- the address at a place is taken, and the next one is that after it; with the first one that is
+-- tried, nothing of those before counts any more
 abbrev pub taking : Addresses → Addresses
 taking it = record it {
   last = it.next;
   next = following it.next (length it.all.items);
+  refused = it.refused && nat_lt 0 it.tried;
+  lacked = it.lacked && nat_lt 0 it.tried;
   tried = capped (it.tried + 1);
 }
+
+-- a connection was made at the address that was tried last, at which the next one is begun too
+abbrev pub reaching : Addresses → Addresses
+reaching it = record it { next = it.last; tried = 0; reached = Some it.last }
+
+-- until when a connection is tried at the address that was tried last, if others are left and
+-- somebody waits for one until some moment: each has an equal part of the time until then
+abbrev pub until_of : (due : Option ℕ) → (now : ℕ) → Addresses → Option ℕ
+until_of None now it = None
+until_of (Some due) now it =
+    if length it.all.items - it.tried == 0 then None
+    else Some (now + share_of (due - now) (capped (length it.all.items - it.tried + 1)))
+
+-- no connection was made there in that time
+abbrev pub passing : Addresses → Addresses
+passing it = record it { refused = true; until = None }
+
+-- a place that is known, and this one
+abbrev pub is_last_reached : Option ℕ → ℕ → Bool
+is_last_reached None place = false
+is_last_reached (Some known) place = known == place
+
+-- no connection could be made at the address that was tried last: it failed; or the proxy itself
+-- lacked what that takes, which counts where the address was reached last
+abbrev pub noting_failure : (is_lack : Bool) → Addresses → Addresses
+noting_failure true it = record it { lacked = it.lacked || is_last_reached it.reached it.last }
+noting_failure false it = record it { refused = true }
+
+-- what follows once none is left: the server failed only if one of its addresses did, and the one
+-- that was reached last could be tried
+abbrev pub end_of : Addresses → Unmade
+end_of it = if it.lacked || not it.refused then Lacking else Refused
+
+-- the next one is tried, if one is left; else those that wait are told
+abbrev pub IsUnmade : (left is_lack : Bool) → Addresses → Unmade → Addresses → Type 0
+IsUnmade true is_lack old result new = (result ≡ Next) × (new ≡ noting_failure is_lack old)
+IsUnmade false is_lack old result new =
+    (result ≡ end_of (noting_failure is_lack old))
+    × (new ≡ record (noting_failure is_lack old) { tried = 0 })
 
 -- the next address was taken, if there is one
 abbrev pub IsTakenOf : Option SocketAddr → Addresses → Option SocketAddr → Addresses → Type 0

@@ -1,4 +1,5 @@
 pub mod Addresses
+pub mod Connects
 pub mod Held
 pub mod Loads
 pub mod Loops

@@ -1,19 +1,19 @@
 //! The addresses of a server.
-ghost use Rattle.std.specs.Prelude.{◌≡◌, ◌<◌, ◌≤◌, None, IfOk, is_some, length};
-ghost use Rattle.std.specs.Bool.{OnFalse, OnTrue};
+ghost use Rattle.std.specs.Prelude.{◌≡◌, ◌<◌, None, IfOk, is_some, length, nat_lt};
 ghost use Rattle.tko_tcp.specs.declared.server_host.ServerHost.{ServerHost};
 ghost use Rattle.tko_tcp.specs.ServerHosts.{LeadsTo};
-ghost use Rattle.tko_loop.specs.Addresses.{AreAddressesOf, AreFreshAddresses, IsAddressTaken, IsBegunIf, IsConnectBegun, IsRenewed, awaited_of, following, place_in, reach_of};
+ghost use Rattle.tko_loop.specs.Addresses.{AreAddressesOf, AreFreshAddresses, IsAddressTaken, IsBegunIf, IsConnectBegun, IsRenewed, IsUnmade, awaited_of, following, is_last_reached, noting_failure, passing, place_in, first_place_of, reach_of, reached_of, reaching, until_of};
 
 use std::alloc::{AllocError, Global};
 use std::net::SocketAddr;
 use std::sync::Wait;
 use tko_bytes::NoMemory;
-use tko_tcp::{Known, NamedHost, Names, ServerHost};
+use tko_tcp::{Known, NamedHost, Names, ServerHost, share_until};
 
-/// Where a server may be. Each connection is begun at the address after that of the one before,
-/// unless that was made: then it is begun there again. The addresses of a host are those that are
-/// known at that moment; nothing here waits for a look-up.
+/// Where a server may be. Its addresses are tried one after another, from the one on at which a
+/// connection was made last by any worker. While others are left, each has an equal part of the time
+/// that is left. The addresses of a host are those that are known at that moment; nothing here
+/// waits for a look-up.
 #[derive(Drop)]
 pub struct Addresses {
     /// The host that is looked up, if it is one.
@@ -26,6 +26,14 @@ pub struct Addresses {
     /// How many were begun since one was made, since those that wait were told that none could be,
     /// or since a look-up was asked for because none was.
     tried: usize,
+    /// The place of the address at which a connection was made last, by any worker, if one was.
+    reached: Option<usize>,
+    /// Whether one of those that were tried failed, and that for no lack of the proxy itself.
+    refused: bool,
+    /// Whether the proxy itself lacked what a connection to the address takes that was reached last.
+    lacked: bool,
+    /// Until when a connection is tried at the address that was tried last, if others are left.
+    until: Option<u64>,
     /// While a look-up is awaited: how many had ended when it was asked for.
     awaited: Option<u64>,
 }
@@ -38,6 +46,17 @@ pub(crate) enum Reach {
     Later,
     /// There is no address.
     Nowhere,
+}
+
+/// What follows where a connection could not be made.
+#[derive(Clone, Copy, Debug, PartialEq, Eq)]
+pub(crate) enum Unmade {
+    /// Another address is left to try.
+    Next,
+    /// The server failed: at none of its addresses a connection could be made.
+    Refused,
+    /// That cannot be told, for what the proxy itself lacked.
+    Lacking,
 }
 
 impl Addresses {
@@ -69,6 +88,10 @@ impl Addresses {
             next: 0,
             last: 0,
             tried: 0,
+            reached: None,
+            refused: false,
+            lacked: false,
+            until: None,
             awaited: None,
         }
     }
@@ -117,6 +140,8 @@ impl Addresses {
             self.tried = 0;
             host.ask(rt);
         }
+        self.reached = reached_of(self.tried, host.reached(), self.reached);
+        self.next = first_place_of(self.tried, self.reached, self.next);
         self.awaited = awaited_of(host.known(rt, self.awaited, &mut self.all));
         self.next = place_in(self.all.len(), self.next);
     }
@@ -131,34 +156,97 @@ impl Addresses {
         }
         self.last = self.next;
         self.next = following(self.next, self.all.len());
+        self.refused = self.refused && 0 < self.tried;
+        self.lacked = self.lacked && 0 < self.tried;
         self.tried = self.tried.saturating_add(1);
         Some(address)
     }
 
     /// A connection was made.
     pub(crate) fn made(&mut self)
-        ensures { self.new ≡ record self.old { next = self.old.last; tried = 0 } }
+        ensures { self.new ≡ reaching self.old }
     {
         self.next = self.last;
         self.tried = 0;
+        self.reached = Some(self.last);
+        if let Some(host) = &self.host {
+            host.reach(self.last);
+        }
     }
 
-    /// A connection could not be made. Returns whether an address is left that was not tried. Where
-    /// none is, a look-up is asked for.
-    pub(crate) fn failed<R: Wait>(&mut self, rt: &R) -> bool
-        ensures left { OnTrue result (self.old.tried < length self.old.all.items) }
-        ensures kept { OnTrue result (self.new ≡ self.old) }
-        ensures all { OnFalse result (length self.old.all.items ≤ self.old.tried) }
-        ensures none { OnFalse result (self.new ≡ record self.old { tried = 0 }) }
+    /// A connection is being made from now on at the address that was tried last, for those of whom
+    /// the first waits until this moment.
+    pub(crate) fn begun(&mut self, now: u64, due: Option<u64>)
+        ensures { self.new ≡ record self.old { until = until_of due now self.old } }
     {
+        self.until = self.until_of(now, due);
+    }
+
+    fn until_of(&self, now: u64, due: Option<u64>) -> Option<u64>
+        ensures { result ≡ until_of due now self.now }
+    {
+        let due = due?;
+        let others = self.all.len().saturating_sub(self.tried);
+        if others == 0 {
+            return None;
+        }
+        Some(share_until(now, due, (others as u64).saturating_add(1)))
+    }
+
+    /// Until when the connection is tried that is being made, if another address is left.
+    pub(crate) fn until(&self) -> Option<u64>
+        ensures { result ≡ self.now.until }
+    {
+        self.until
+    }
+
+    /// No connection was made in the time of the address that was tried last, and others are left.
+    pub(crate) fn pass(&mut self)
+        ensures { self.new ≡ passing self.old }
+    {
+        self.refused = true;
+        self.until = None;
+    }
+
+    /// A connection could not be made, perhaps for what the proxy itself lacked. Where the server
+    /// failed, a look-up is asked for.
+    pub(crate) fn failed<R: Wait>(&mut self, rt: &R, is_lack: bool) -> Unmade
+        ensures { IsUnmade (nat_lt self.old.tried (length self.old.all.items)) is_lack self.old
+            result self.new }
+    {
+        self.note(is_lack);
         if self.tried < self.all.len() {
-            return true;
+            return Unmade::Next;
         }
         self.tried = 0;
+        if self.lacked || !self.refused {
+            return Unmade::Lacking;
+        }
         if let Some(host) = &self.host {
             host.ask(rt);
         }
-        false
+        Unmade::Refused
+    }
+
+    /// Notes why no connection could be made at the address that was tried last.
+    fn note(&mut self, is_lack: bool)
+        ensures { self.new ≡ noting_failure is_lack self.old }
+    {
+        if is_lack {
+            self.lacked = self.lacked || is_last_reached(self.reached, self.last);
+        } else {
+            self.refused = true;
+        }
+    }
+}
+
+/// Whether it is known, and this one.
+fn is_last_reached(known: Option<usize>, place: usize) -> bool
+    ensures { result ≡ is_last_reached known place }
+{
+    match known {
+        Some(its) => its == place,
+        None => false,
     }
 }
 
@@ -175,6 +263,30 @@ fn place_in(count: usize, place: usize) -> usize
     ensures { result ≡ place_in count place }
 {
     if count <= place { 0 } else { place }
+}
+
+/// Where the server was reached last, by what another worker may have found since. That counts once
+/// all addresses are to be tried.
+fn reached_of(tried: usize, found: Option<usize>, reached: Option<usize>) -> Option<usize>
+    ensures { result ≡ reached_of tried found reached }
+{
+    if tried != 0 {
+        return reached;
+    }
+    match found {
+        Some(_) => found,
+        None => reached,
+    }
+}
+
+/// The place from which on addresses are tried: that one, once all are to be tried.
+fn first_place_of(tried: usize, reached: Option<usize>, next: usize) -> usize
+    ensures { result ≡ first_place_of tried reached next }
+{
+    if tried != 0 {
+        return next;
+    }
+    reached.unwrap_or(next)
 }
 
 /// How many look-ups had ended when one was asked for, where one is awaited.

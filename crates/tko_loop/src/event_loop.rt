@@ -78,6 +78,8 @@ pub struct EventLoop<T, P, K> {
     pause: u64,
     /// The moment of the last walk over the clients.
     walked: u64,
+    /// The first moment at which a connection that is being made is given up for another address.
+    until: Option<u64>,
 }
 
 impl<P: Drop, T: Talking<P> + Drop, K: Drop> EventLoop<T, P, K> {
@@ -126,6 +128,7 @@ impl<P: Drop, T: Talking<P> + Drop, K: Drop> EventLoop<T, P, K> {
                 moment: 0,
                 pause: 0,
                 walked: 0,
+                until: None,
             }),
             Err(SharedParts { parts, .. }) => Err(parts),
         }
@@ -189,7 +192,7 @@ impl<P, T: Talking<P> + Drop, K: Drop> EventLoop<T, P, K> {
         let pause = Duration::from_millis(self.pause);
         self.entry.poll.poll(&mut self.events, Some(pause))?;
         let shown = self.clock.next(rt);
-        let is_noted = self.begin(rt, alloc);
+        let is_noted = self.begin(rt, alloc, shown);
         self.turns.begin(shown, self.pause, is_noted);
         self.moment = self.turns.moments().began();
         let intake = self.admit_all(rt, alloc, host);
@@ -198,9 +201,9 @@ impl<P, T: Talking<P> + Drop, K: Drop> EventLoop<T, P, K> {
         Ok(self.after(intake))
     }
 
-    /// Notes what came, and begins the connections that are wanted. Returns whether all was noted
-    /// that had come before the poll.
-    fn begin<R: IoRuntime>(&mut self, rt: &R, alloc: Global) -> bool
+    /// Notes what came, and begins the connections that are wanted at this moment. Returns whether all
+    /// was noted that had come before the poll.
+    fn begin<R: IoRuntime>(&mut self, rt: &R, alloc: Global, now: u64) -> bool
         requires order { IsInOrder (T.awaited, T.talk, held_port) T.ready self.old.worker.clients }
         ensures buffer { self.new.buffer ≡ self.old.buffer }
         ensures turns { self.new.turns ≡ self.old.turns }
@@ -216,7 +219,7 @@ impl<P, T: Talking<P> + Drop, K: Drop> EventLoop<T, P, K> {
             &self.events,
         );
         let registry = self.entry.poll.registry();
-        connect_all(rt, &mut self.worker, &mut self.servers, registry);
+        self.until = connect_all(rt, &mut self.worker, &mut self.servers, registry, now);
         let sockets = self.worker.clients.numbers().saturating_add(self.servers.len());
         self.noted.note(count, EVENTS, sockets.saturating_add(1))
     }
@@ -338,7 +341,7 @@ impl<P, T: Talking<P> + Drop, K: Drop> EventLoop<T, P, K> {
         self.turns.end(self.clock.next(rt));
         ahead.rests &= intake != Intake::More && self.turns.is_noted();
         let next = self.turns.next();
-        self.pause = pause_after(&self.worker, &self.servers, ahead, moments.judged(), next);
+        self.pause = pause_after(&self.worker, &self.servers, ahead, self.until, moments.judged(), next);
     }
 
     /// The parts that all sessions shared, at the end. The clients, the connections to the servers

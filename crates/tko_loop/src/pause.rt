@@ -1,5 +1,5 @@
 //! How long the poll may wait.
-ghost use Rattle.std.specs.Prelude.{◌≡◌, ◌<◌, ◌≤◌, ℕ, [], true, length, slice_get};
+ghost use Rattle.std.specs.Prelude.{◌≡◌, ◌<◌, ◌≤◌, ◌+◌, ℕ, [], IfSome, true, length, slice_get};
 ghost use Rattle.std.specs.Bool.{OnFalse, OnTrue};
 ghost use Rattle.tko_worker.specs.Turns.{IsNextDue, NoneWanted, ServersRest};
 ghost use Rattle.tko_loop.specs.Addresses.{IsLookedUp};
@@ -20,11 +20,12 @@ const LOOK_UP_PAUSE: u64 = 10;
 /// How many milliseconds the poll may wait after a turn that judged by the first moment, where the
 /// next one judges by the second. At its end this lies ahead of the worker, and more clients may
 /// wait to be taken in or not. A connection that is wanted is begun in the next turn, so that does
-/// not wait.
+/// not wait; one that is being made may be given up for another address at the moment `until`.
 pub(crate) fn pause_after<P, T: Talking<P> + Drop, K: Drop>(
     worker: &EventWorker<Held<K>, T, P>,
     servers: &Vec<Addresses>,
     ahead: Outlook,
+    until: Option<u64>,
     judged: u64,
     next: u64,
 ) -> u64
@@ -36,9 +37,11 @@ pub(crate) fn pause_after<P, T: Talking<P> + Drop, K: Drop>(
         ahead.due }
     requires wants { OnFalse ahead.wants (NoneWanted held_port worker.now.clients.mux.lines
         worker.now.peers.items (length worker.now.peers.items)) }
-    ensures { MayWait judged next result servers.now.items worker.now }
+    ensures may { MayWait judged next result servers.now.items worker.now }
+    ensures until { IfSome until (λ moment. 0 < result → next + result ≤ moment) }
 {
     let most = longest_wait(worker, servers, ahead);
+    let most = pause_of(most, until, next);
     pause_of(most, ahead.due, next)
 }
 
