@@ -84,16 +84,17 @@ class Closed:
 class Deaf:
     """A port whose listener accepts nobody, and whose queue is full: a connection to it is never made."""
 
-    def __init__(self):
-        self.listener = socket.create_server((HOST, free_port()), backlog=0)
-        self.address = "%s:%d" % self.listener.getsockname()
+    def __init__(self, host=HOST, port=None):
+        self.family = socket.AF_INET6 if ":" in host else socket.AF_INET
+        self.listener = socket.create_server((host, port or free_port()), family=self.family, backlog=0)
+        self.address = "%s:%d" % self.listener.getsockname()[:2]
         self.waiting = []
         while self.fill():
             pass
 
     def fill(self):
         """One more connection in the queue, unless it is full."""
-        connection = socket.socket()
+        connection = socket.socket(self.family)
         self.waiting.append(connection)
         connection.settimeout(0.2)
         try:

@@ -8,4 +8,6 @@ invariant-loop g l = record {
   order : IsInOrder (g.T.Talking.awaited, g.T.Talking.talk, held_port)
       g.T.Talking.ready l.self.worker.clients;
   buffer : l.self.buffer ≡ l.initial.self.buffer;
+  turns : l.self.turns ≡ l.initial.self.turns;
+  moment : l.self.moment ≡ l.initial.self.moment;
 }
