@@ -192,18 +192,18 @@ impl<P, T: Talking<P> + Drop, K: Drop> EventLoop<T, P, K> {
         let pause = Duration::from_millis(self.pause);
         self.entry.poll.poll(&mut self.events, Some(pause))?;
         let shown = self.clock.next(rt);
-        let is_noted = self.begin(rt, alloc, shown);
+        let is_noted = self.begin(rt, alloc);
         self.turns.begin(shown, self.pause, is_noted);
         self.moment = self.turns.moments().began();
+        self.connect(rt);
         let intake = self.admit_all(rt, alloc, host);
         self.walk(alloc, host);
         self.end(rt, alloc, host, intake);
         Ok(self.after(intake))
     }
 
-    /// Notes what came, and begins the connections that are wanted at this moment. Returns whether all
-    /// was noted that had come before the poll.
-    fn begin<R: IoRuntime>(&mut self, rt: &R, alloc: Global, now: u64) -> bool
+    /// Notes what came. Returns whether all was noted that had come before the poll.
+    fn begin<R: IoRuntime>(&mut self, rt: &R, alloc: Global) -> bool
         requires order { IsInOrder (T.awaited, T.talk, held_port) T.ready self.old.worker.clients }
         ensures buffer { self.new.buffer ≡ self.old.buffer }
         ensures turns { self.new.turns ≡ self.old.turns }
@@ -218,10 +218,31 @@ impl<P, T: Talking<P> + Drop, K: Drop> EventLoop<T, P, K> {
             alloc,
             &self.events,
         );
-        let registry = self.entry.poll.registry();
-        self.until = connect_all(rt, &mut self.worker, &mut self.servers, registry, now);
-        let sockets = self.worker.clients.numbers().saturating_add(self.servers.len());
+        let sockets = self
+            .worker
+            .clients
+            .numbers()
+            .saturating_add(self.servers.len());
         self.noted.note(count, EVENTS, sockets.saturating_add(1))
+    }
+
+    /// Begins the connections that are wanted, at the moment of the turn: deadlines are of the same
+    /// clock, which does not count pauses.
+    fn connect<R: IoRuntime>(&mut self, rt: &R)
+        requires order { IsInOrder (T.awaited, T.talk, held_port) T.ready self.old.worker.clients }
+        ensures buffer { self.new.buffer ≡ self.old.buffer }
+        ensures turns { self.new.turns ≡ self.old.turns }
+        ensures moment { self.new.moment ≡ self.old.moment }
+        ensures order { IsInOrder (T.awaited, T.talk, held_port) T.ready self.new.worker.clients }
+    {
+        let registry = self.entry.poll.registry();
+        self.until = connect_all(
+            rt,
+            &mut self.worker,
+            &mut self.servers,
+            registry,
+            self.moment,
+        );
     }
 
     /// Takes in clients that other threads handed over.
@@ -341,7 +362,14 @@ impl<P, T: Talking<P> + Drop, K: Drop> EventLoop<T, P, K> {
         self.turns.end(self.clock.next(rt));
         ahead.rests &= intake != Intake::More && self.turns.is_noted();
         let next = self.turns.next();
-        self.pause = pause_after(&self.worker, &self.servers, ahead, self.until, moments.judged(), next);
+        self.pause = pause_after(
+            &self.worker,
+            &self.servers,
+            ahead,
+            self.until,
+            moments.judged(),
+            next,
+        );
     }
 
     /// The parts that all sessions shared, at the end. The clients, the connections to the servers
