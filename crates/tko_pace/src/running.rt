@@ -33,7 +33,9 @@ impl RunningTime {
         ensures { self.new ≡ ran_to shown wait self.old }
     {
         let passed = shown.saturating_sub(self.shown);
-        self.ran = self.ran.saturating_add(counted_time(self.limit, wait, passed));
+        self.ran = self
+            .ran
+            .saturating_add(counted_time(self.limit, wait, passed));
         self.shown = shown;
     }
 

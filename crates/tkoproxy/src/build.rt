@@ -2,5 +2,5 @@
 
 /// The sum of the sources, which `release/hash` prints, and the kit that built them.
 pub(crate) const BUILD: &str =
-    "sources e116f7251427440ff0bacc6ce278f77f88a9ad02f57058014cf7699da0911d48, \
+    "sources ea2b04778eab26a3057221a822f4ce376388066b5346068e9ec62cce4973df1f, \
     rattle-kit-13b logic dac8208d650f15bf";
