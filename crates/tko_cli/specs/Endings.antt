@@ -116,8 +116,8 @@ pub data IsFaultTold {O F : Type 0} (takes : O → List ℕ → O → Type 0) (f
         → HasNotices notes faults old middle → IsFaultWritten notes faults reason middle new
         → IsFaultTold takes failures notes faults came from to old new
 
--- by a fault the command that these words ask for ended, and its line was written; of `demo` it is a
--- fault of its own
+-- by a fault the command that these words ask for ended, and its line was written; of `demo` it is
+-- a fault of its own
 pub data HasCommandFailed {I O F : Type 0} (inlet : InletGhosts I) (outlet : OutletGhosts O)
     (notes : OutletGhosts F) (words : List (List ℕ)) (old new : CommandEnds I O F) : Type 0 where
   WithFault : IsFaultTold outlet.takes outlet.failures notes.takes notes.failures

@@ -19,8 +19,8 @@ use tko_io::{IoRuntime, Taped};
 use tko_options::{DemoOptions, Mode, ServeOptions};
 use tko_server::ServerRunFault;
 
-/// How long the first probe of the server that goes away waits, in milliseconds: until the server is
-/// back also on a slow machine, so that the first probe is the one that it answers.
+/// How long the first probe of the server that goes away waits, in milliseconds: until the server
+/// is back also on a slow machine, so that the first probe is the one that it answers.
 const FIRST_DELAY: u32 = 1500;
 
 const ROUTE: &str =

@@ -3,8 +3,8 @@
 //!
 //! - `command`: reads the words, runs the command that they name, and returns the status.
 //! - `hold_standard_streams`: for the program to call first.
-//! - `serve` of serving.rt is the command that serves clients, and `run_demo` of demo.rt shows it at
-//!   work; the others are those of tko_commands.
+//! - `serve` of serving.rt is the command that serves clients, and `run_demo` of demo.rt shows it
+//!   at work; the others are those of tko_commands.
 #![tactic(auto)]
 
 mod announcement;

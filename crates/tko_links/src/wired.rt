@@ -116,8 +116,8 @@ impl<W: Wire> Wired<W> {
     }
 }
 
-/// The clauses are those of `Links`, with `ends` for `spent`: nothing is aborted. `record` says what
-/// an item is.
+/// The clauses are those of `Links`, with `ends` for `spent`: nothing is aborted. `record` says
+/// what an item is.
 impl<W: Wire> Links for Wired<W> {
     ghost servers = { λ links. length links.sends };
 

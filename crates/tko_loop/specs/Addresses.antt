@@ -85,7 +85,8 @@ pub record IsLookedAt (old new : Addresses) : Type 0 where
   pub tried : new.tried ≡ tried_of (length old.all.items) old.tried
   pub found : Option ℕ
   pub reached : new.reached ≡ reached_of new.tried found old.reached
-  pub place : new.next ≡ place_in (length new.all.items) (first_place_of new.tried new.reached old.next)
+  pub place : new.next ≡ place_in (length new.all.items)
+      (first_place_of new.tried new.reached old.next)
   pub others : new ≡ record old {
     all = new.all;
     next = new.next;

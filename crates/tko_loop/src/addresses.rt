@@ -11,8 +11,8 @@ use tko_bytes::NoMemory;
 use tko_tcp::{Known, NamedHost, Names, ServerHost, share_until};
 
 /// Where a server may be. Its addresses are tried one after another, from the one on at which a
-/// connection was made last by any worker. While others are left, each has an equal part of the time
-/// that is left. The addresses of a host are those that are known at that moment; nothing here
+/// connection was made last by any worker. While others are left, each has an equal part of the
+/// time that is left. The addresses of a host are those that are known at that moment; nothing here
 /// waits for a look-up.
 #[derive(Drop)]
 pub struct Addresses {
@@ -30,7 +30,8 @@ pub struct Addresses {
     reached: Option<usize>,
     /// Whether one of those that were tried failed, and that for no lack of the proxy itself.
     refused: bool,
-    /// Whether the proxy itself lacked what a connection to the address takes that was reached last.
+    /// Whether the proxy itself lacked what it takes to connect to the address that was reached
+    /// last.
     lacked: bool,
     /// Until when a connection is tried at the address that was tried last, if others are left.
     until: Option<u64>,

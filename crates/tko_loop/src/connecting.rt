@@ -63,7 +63,8 @@ fn pass_over<P, T: Talking<P> + Drop, K: Drop>(
     server: usize,
     now: u64,
 )
-    ensures early { has_passed addresses.old.until now ≡ false → worker.new.peers ≡ worker.old.peers }
+    ensures early { has_passed addresses.old.until now ≡ false
+        → worker.new.peers ≡ worker.old.peers }
     ensures over { has_passed addresses.old.until now ≡ true
         → link_at (line_at worker.old.clients.mux server) ≡ Some Link.Connecting
         → socket_at held_port worker.new.peers.items server ≡ None }

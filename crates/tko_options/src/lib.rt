@@ -3,7 +3,8 @@
 //!
 //! - `Asked`: what the words ask for; `Refusal`: why they ask for nothing, or the help.
 //! - `Mode`: how a server serves its clients.
-//! - `DryOptions`, `ServeOptions`, `CheckOptions`, `DemoOptions`: the options of the commands, a field for each.
+//! - `DryOptions`, `ServeOptions`, `CheckOptions`, `DemoOptions`: the options of the commands, a
+//!   field for each.
 #![tactic(auto)]
 
 mod asked;

@@ -41,8 +41,8 @@ impl RingKind {
         place: u32,
         points: &mut Vec<Point>,
     ) -> Result<(), NoMemory>
-        ensures { OnOk result
-            (points.new.items ≡ points.old.items ++ map (point_at place) (values_at self label.now)) }
+        ensures { OnOk result (points.new.items
+            ≡ points.old.items ++ map (point_at place) (values_at self label.now)) }
     {
         match self {
             RingKind::Ketama => push_words(&Md5::digest(label), place, points),

@@ -4,7 +4,8 @@ ghost use Rattle.tko_ring.specs.Servers.{AreWeighed, total_weight};
 
 use std::marker::Model;
 
-/// The most weight of all servers of a ring together: above it floats of 32 bits lose whole numbers.
+/// The most weight of all servers of a ring together: above it floats of 32 bits lose whole
+/// numbers.
 pub const MAX_WEIGHT: u32 = 1 << 24;
 
 /// A server of a pool, as the points of a ring depend on it. In contracts it is a `NamedServer`.

@@ -2,5 +2,5 @@
 
 /// The sum of the sources, which `release/hash` prints, and the kit that built them.
 pub(crate) const BUILD: &str =
-    "sources ea2b04778eab26a3057221a822f4ce376388066b5346068e9ec62cce4973df1f, \
+    "sources a15fd1a9867eba5a6265a7f5b10a8ae9242e2554520829f0b7f75594bdc0c1e4, \
     rattle-kit-13b logic dac8208d650f15bf";
