@@ -6,7 +6,7 @@ use Rattle.tko_pipe.specs.declared.waiter.Waiter.{Waiter}
 use Rattle.tko_pipe.specs.declared.fates.Fates.{Fates}
 use Rattle.tko_pipe.specs.declared.link.Link.{Link}
 use Rattle.tko_pipe.specs.declared.link.Link.TheVariants.{Shut}
-use Rattle.tko_pipe.specs.Fates.{Leaving, fate_at, leaving}
+use Rattle.tko_pipe.specs.Fates.{Leaving, leaving, next_fate}
 use Rattle.tko_pipe.specs.Lives.{Got, IsPipeStep, Left, PipeItem, Pushed, Took, WasConnected}
 use Rattle.tko_pipe.specs.Lives.{WasShut, Wrote, got_in, heard_after, leaving_in, left_in}
 use Rattle.tko_pipe.specs.Lives.{pushed_in, shut_in, took_in, unanswered_in, wrote_in}
@@ -15,7 +15,7 @@ use Rattle.tko_pipe.specs.Pipes.{IsLive, PipeState}
 -- the first of those that are left leaves, and then those that followed it
 leaving_first : (left : Fates) (waiter : Waiter) (others : List Waiter)
     → leaving left (waiter ∷ others)
-    ≡ record { waiter = waiter; came = fate_at left waiter.due }
+    ≡ record { waiter = waiter; came = next_fate left }
     ∷ leaving (record left { first = None }) others
 leaving_first left waiter [] = refl
 leaving_first left waiter (next_one ∷ others) = refl
@@ -58,9 +58,9 @@ leaves old new (Left it ∷ items) left e (mid, step, more) =
     ap (λ (s : PipeState). s.link) step.state
     ∙ ap (λ (l : Fates). Shut (record l { first = None })) same in
     let rest = leaves mid new items (record left { first = None }) link more in
-    let came : it.came ≡ fate_at left it.waiter.due =
-    step.came ∙ ap (λ (l : Fates). fate_at l it.waiter.due) same in
-    let is_it : it ≡ record { waiter = it.waiter; came = fate_at left it.waiter.due } =
+    let came : it.came ≡ next_fate left =
+    step.came ∙ ap next_fate same in
+    let is_it : it ≡ record { waiter = it.waiter; came = next_fate left } =
     ap (λ fate. record { waiter = it.waiter; came = fate }) came in
     record {
       only = ap (λ (xs : List PipeItem). Left it ∷ xs) rest.only;

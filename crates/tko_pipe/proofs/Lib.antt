@@ -1,4 +1,5 @@
 mod LeavingLemmas
 mod LifeLemmas
 mod PipeLemmas
+mod ProgressLemmas
 mod QueueLemmas

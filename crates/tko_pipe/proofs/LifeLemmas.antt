@@ -15,6 +15,7 @@ use Rattle.tko_pipe.specs.Lives.{bytes_read_in, heard_after, left_in, responses_
 use Rattle.tko_pipe.specs.Lives.{unanswered_in, unread_dropped, unwritten_dropped, written_in}
 use Rattle.tko_pipe.specs.Pipes.{IsLive, PipeState, lengths_of, opened_pipe}
 use Rattle.tko_pipe.proofs.LeavingLemmas.{leaves}
+use Rattle.tko_pipe.proofs.ProgressLemmas.{time_spent}
 
 -- what the items lead to, from a connection that was not shut
 record Leads (old : PipeState) (items : List PipeItem) (new : PipeState) : Type 0 where
@@ -234,4 +235,5 @@ lives limit items state gains =
       asked_first = omega (arith, all.asked_first (omega arith));
       heard = all.heard;
       end = all.end;
+      spent = time_spent limit items state;
     }

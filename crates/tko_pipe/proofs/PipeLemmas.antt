@@ -10,7 +10,7 @@ use Rattle.tko_pipe.specs.declared.fates.ShutCause.TheVariants.{Unasked}
 use Rattle.tko_pipe.specs.declared.link.Link.{Link}
 use Rattle.tko_pipe.specs.declared.link.Link.TheVariants.{Connected, Shut}
 use Rattle.tko_pipe.specs.Ends.{IsChecked, IsFirstAnswered, IsLeaving}
-use Rattle.tko_pipe.specs.Fates.{Leaving, fate_at, fates_of}
+use Rattle.tko_pipe.specs.Fates.{Leaving, fates_of, next_fate}
 use Rattle.tko_pipe.specs.Fronts.{IsFront}
 use Rattle.tko_pipe.specs.Pipes.{IsLive, IsTaken, PipeState, Taking, is_asked, lengths_of, shut_by}
 
@@ -94,7 +94,7 @@ answered p old request waiter others response left link unwritten unread same co
 pub left_first : (p old : PipeState) (left next_fates : Fates) (waiter : Waiter)
     (others : List Waiter) (came : Fate)
     → p ≡ old → p.link ≡ Shut left → p.waiters ≡ waiter ∷ others
-    → came ≡ fate_at left waiter.due → next_fates ≡ record left { first = None }
+    → came ≡ next_fate left → next_fates ≡ record left { first = None }
     → IsLeaving old waiter.by came (record p { waiters = others; link = Shut next_fates })
 left_first p old left next_fates waiter others came same shut waiters is_fate is_next =
     let it : Leaving = record { waiter = waiter; came = came } in

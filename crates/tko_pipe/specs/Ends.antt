@@ -60,7 +60,7 @@ IsLateAt now _ = ⊥
 
 -- whether the first response is late at this moment: if it is, the connection was shut
 abbrev pub ExpireEnds : PipeState → ℕ → Option ShutCause → PipeState → Type 0
-ExpireEnds old now None new = (is_late old.waiters now ≡ false) × (new ≡ old)
+ExpireEnds old now None new = (is_late old now ≡ false) × (new ≡ old)
 ExpireEnds old now (Some cause) new = IsLateAt now cause × IsShut old (shutting old cause) new
 
 -- the first of those whose connection was shut left with this fate

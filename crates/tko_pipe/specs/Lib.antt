@@ -3,3 +3,4 @@ pub mod Fates
 pub mod Fronts
 pub mod Lives
 pub mod Pipes
+pub mod Windows

@@ -1,11 +1,14 @@
 -- The life of a connection: all that was done with it, and what this means.
-use Rattle.std.specs.Prelude.{◌≡◌, ◌≤◌, ◌⊎◌, ℕ, List, [], ◌∷◌, ◌++◌, length, map, flat_map, All, Option, Some, None}
+use Rattle.std.specs.Prelude.{◌≡◌, ◌+◌, ◌<◌, ◌≤◌, ◌⊎◌, ℕ, List, [], ◌∷◌, ◌++◌, length, map, flat_map, All, Option, Some, None}
 use Rattle.tko_model.specs.Records.{Gains}
 use Rattle.tko_text.specs.Requests.{request_text}
 use Rattle.tko_text.specs.ResponseReads.{IsResponse}
 use Rattle.tko_pipe.specs.declared.waiter.Waiter.{Waiter}
 use Rattle.tko_pipe.specs.declared.link.Link.{Link}
 use Rattle.tko_pipe.specs.declared.link.Link.TheVariants.{Connecting, Connected, Shut}
+use Rattle.tko_pipe.specs.declared.fates.ShutCause.{ShutCause}
+use Rattle.tko_pipe.specs.declared.fates.ShutCause.TheVariants.{Silent, Late}
+use Rattle.tko_pipe.specs.Windows.{limit_after, progress}
 use Rattle.tko_pipe.specs.Fates.{Leaving, fates_of, leaving}
 use Rattle.tko_pipe.specs.Pipes.{IsCause, IsConnected, IsGot, IsLeft, IsLive, IsPushed, IsShut, IsTaken, IsWritten, PipeState, Pushing, Shutting, Taking, lengths_of, opened_pipe}
 
@@ -99,6 +102,24 @@ leaving_in Connecting waiters = []
 leaving_in Connected waiters = []
 leaving_in (Shut left) waiters = leaving left waiters
 
+-- what was done, as to this moment: bytes that were read came within the time limit before it
+abbrev pub IsWithin : ℕ → ℕ → PipeItem → Type 0
+IsWithin limit now (Got bytes moment) = now < limit_after limit moment
+IsWithin limit now _ = Unit {0}
+
+-- less than 64 KiB came by all reads since one within the time limit before this moment
+abbrev pub HasNoProgress : ℕ → ℕ → List PipeItem → Type 0
+HasNoProgress limit now items = (earlier : List PipeItem) (bytes : List ℕ) (moment : ℕ)
+    (recent : List PipeItem) → items ≡ earlier ++ Got bytes moment ∷ recent
+    → All (IsWithin limit now) (Got bytes moment ∷ recent)
+    → length bytes + length (bytes_read_in recent) < progress
+
+-- a connection is shut for the time that passed only where it made no progress
+abbrev pub IsTimeSpent : ℕ → ShutCause → List PipeItem → Type 0
+IsTimeSpent limit (Silent now) items = HasNoProgress limit now items
+IsTimeSpent limit (Late now) items = HasNoProgress limit now items
+IsTimeSpent limit _ items = Unit {0}
+
 -- the connection was shut once, as it was then; after that those that waited leave, with the fates
 -- of the table, and nothing else happens
 pub record IsEnd (first : PipeState) (items : List PipeItem) (state : PipeState) : Type 0 where
@@ -127,3 +148,6 @@ pub record IsLife (limit : ℕ) (items : List PipeItem) (state : PipeState) : Ty
   pub asked_first : lengths_of (answered_in items) ≤ length (written_in items)
   pub heard : state.heard ≡ heard_after None items
   pub end : IsLive state.link ⊎ IsEnd (opened_pipe limit) items state
+  -- if it was shut for the time that passed, it made no progress in the time limit before
+  pub spent : (end : IsEnd (opened_pipe limit) items state)
+      → IsTimeSpent limit end.it.cause end.before

@@ -12,10 +12,13 @@ use Rattle.tko_pipe.specs.declared.fates.ShutCause.{ShutCause}
 use Rattle.tko_pipe.specs.declared.fates.ShutCause.TheVariants.{Silent, Late}
 use Rattle.tko_pipe.specs.declared.link.Link.{Link}
 use Rattle.tko_pipe.specs.declared.link.Link.TheVariants.{Connecting, Connected, Shut}
-use Rattle.tko_pipe.specs.Fates.{Leaving, fate_at, fates_of}
+use Rattle.tko_pipe.specs.declared.window.Window.{Window}
+use Rattle.tko_pipe.specs.Fates.{Leaving, fates_of, next_fate}
+use Rattle.tko_pipe.specs.Windows.{late_after, read_window, unbegun_window}
 
 -- the time limit, how far the connection is, who waits, what is not written of their requests'
--- texts, the bytes that no response was taken from, and when the last bytes came
+-- texts, the bytes that no response was taken from, when the last bytes came, and since when how many
+-- came
 pub record PipeState : Type 0 where
   pub limit : ℕ
   pub link : Link
@@ -23,6 +26,7 @@ pub record PipeState : Type 0 where
   pub unwritten : List ℕ
   pub unread : List ℕ
   pub heard : Option ℕ
+  pub window : Window
 
 -- a connection that is being made
 abbrev pub opened_pipe : ℕ → PipeState
@@ -33,6 +37,7 @@ opened_pipe limit = record {
   unwritten = [];
   unread = [];
   heard = None;
+  window = unbegun_window;
 }
 
 -- the connection was not shut
@@ -61,10 +66,23 @@ abbrev pub is_asked : List ℕ → List Waiter → List ℕ → Bool
 is_asked [] waiters unwritten = true
 is_asked (byte ∷ bytes) waiters unwritten = is_first_written waiters unwritten
 
+-- when the first of these responses is late, where the bytes of the connection came so
+abbrev pub first_late : List Waiter → Window → ℕ → Option ℕ
+first_late [] window limit = None
+first_late (first ∷ others) window limit = Some (late_after window limit first.due)
+
+-- when the first response is late, if one is awaited and no byte comes
+abbrev pub late_at : PipeState → Option ℕ
+late_at state = first_late state.waiters state.window state.limit
+
+-- that moment is there
+abbrev pub is_reached : Option ℕ → ℕ → Bool
+is_reached None now = false
+is_reached (Some moment) now = nat_le moment now
+
 -- the first response is late at this moment
-abbrev pub is_late : List Waiter → ℕ → Bool
-is_late [] now = false
-is_late (first ∷ others) now = nat_le first.due now
+abbrev pub is_late : PipeState → ℕ → Bool
+is_late state now = is_reached (late_at state) now
 
 -- no byte came for the whole time limit, up to this moment
 abbrev pub is_silent : Option ℕ → ℕ → ℕ → Bool
@@ -74,9 +92,9 @@ is_silent (Some heard) limit now = nat_le limit (now - heard)
 -- a connection can be shut for this cause. Of most causes only the caller knows whether they are so
 abbrev pub IsCause : PipeState → ShutCause → Type 0
 IsCause state (Silent now) =
-    (is_late state.waiters now ≡ true) × (is_silent state.heard state.limit now ≡ true)
+    (is_late state now ≡ true) × (is_silent state.heard state.limit now ≡ true)
 IsCause state (Late now) =
-    (is_late state.waiters now ≡ true) × (is_silent state.heard state.limit now ≡ false)
+    (is_late state now ≡ true) × (is_silent state.heard state.limit now ≡ false)
 IsCause state _ = Unit {0}
 
 -- who waits, and for what
@@ -128,7 +146,11 @@ pub record IsWritten (old : PipeState) (bytes : List ℕ) (new : PipeState) : Ty
 pub record IsGot (old : PipeState) (bytes : List ℕ) (now : ℕ) (new : PipeState) : Type 0 where
   pub connected : old.link ≡ Connected
   pub asked : is_first_written old.waiters old.unwritten ≡ true
-  pub state : new ≡ record old { unread = old.unread ++ bytes; heard = Some now }
+  pub state : new ≡ record old {
+    unread = old.unread ++ bytes;
+    heard = Some now;
+    window = read_window now (length bytes) old.window;
+  }
 
 -- the first that waited had its request written wholly, and the response to this request was at the
 -- front
@@ -163,7 +185,7 @@ pub record IsLeft (old : PipeState) (it : Leaving) (new : PipeState) : Type 0 wh
   pub left : Fates
   pub shut : old.link ≡ Shut left
   pub first : old.waiters ≡ it.waiter ∷ new.waiters
-  pub came : it.came ≡ fate_at left it.waiter.due
+  pub came : it.came ≡ next_fate left
   pub state : new ≡ record old {
     waiters = new.waiters;
     link = Shut (record left { first = None });

@@ -1,6 +1,6 @@
 //! Why a connection was shut, and what that makes of the requests whose responses had not come.
 ghost use Rattle.std.specs.Prelude.{◌≡◌, Some, None};
-ghost use Rattle.tko_pipe.specs.Fates.{fate_at, fate_behind, fates, fates_of};
+ghost use Rattle.tko_pipe.specs.Fates.{fates, fates_of, next_fate};
 
 use crate::Link;
 
@@ -13,7 +13,8 @@ pub enum ShutCause {
     Fault,
     /// At this moment the first response was late, and no byte had come for the whole time limit.
     Silent(u64),
-    /// At this moment the first response was late, and bytes had come within the time limit.
+    /// At this moment the first response was late, and bytes had come within the time limit, but
+    /// too few.
     Late(u64),
     /// What came is no response to the first request.
     Unreadable,
@@ -42,39 +43,18 @@ pub enum Fate {
     Memory,
 }
 
-/// What becomes of the requests that follow the first one.
-#[derive(Clone, Copy, Debug, PartialEq, Eq)]
-pub enum Behind {
-    /// Each has this fate.
-    Each(Fate),
-    /// `Timeout` if its response is late at this moment, else `Aborted`.
-    LateAt(u64),
-}
-
-impl Behind {
-    /// The fate of a request whose response is due at this moment.
-    pub fn fate(self, due: u64) -> Fate
-        ensures { result ≡ fate_behind self due }
-    {
-        match self {
-            Behind::Each(fate) => fate,
-            Behind::LateAt(now) if due <= now => Fate::Timeout,
-            Behind::LateAt(_) => Fate::Aborted,
-        }
-    }
-}
-
 /// What becomes of the requests that a connection leaves.
 #[derive(Clone, Copy, Debug, PartialEq, Eq)]
 pub struct Fates {
     /// That of the first of them, until it was handed out.
     pub first: Option<Fate>,
-    pub behind: Behind,
+    /// That of each that follows it.
+    pub behind: Fate,
 }
 
 impl Fates {
     /// The first request has the one fate, and those that follow it the other.
-    fn new(first: Fate, behind: Behind) -> Fates
+    fn new(first: Fate, behind: Fate) -> Fates
         ensures { result ≡ fates first behind }
     {
         Fates {
@@ -88,26 +68,23 @@ impl Fates {
         ensures { result ≡ fates_of link cause }
     {
         match (link, cause) {
-            (_, ShutCause::Memory) => Fates::new(Fate::Memory, Behind::Each(Fate::Aborted)),
-            (_, ShutCause::Lacking) => Fates::new(Fate::Aborted, Behind::Each(Fate::Aborted)),
-            (Link::Connecting, _) => Fates::new(Fate::Refused, Behind::Each(Fate::Refused)),
-            (_, ShutCause::Silent(_)) => Fates::new(Fate::Timeout, Behind::Each(Fate::Timeout)),
-            (_, ShutCause::Late(now)) => Fates::new(Fate::Timeout, Behind::LateAt(now)),
+            (_, ShutCause::Memory) => Fates::new(Fate::Memory, Fate::Aborted),
+            (_, ShutCause::Lacking) => Fates::new(Fate::Aborted, Fate::Aborted),
+            (Link::Connecting, _) => Fates::new(Fate::Refused, Fate::Refused),
+            (_, ShutCause::Silent(_)) => Fates::new(Fate::Timeout, Fate::Timeout),
+            (_, ShutCause::Late(_)) => Fates::new(Fate::Timeout, Fate::Aborted),
             (_, ShutCause::EndOfInput)
             | (_, ShutCause::Fault)
             | (_, ShutCause::Unreadable)
-            | (_, ShutCause::Unasked) => Fates::new(Fate::Broken, Behind::Each(Fate::Aborted)),
+            | (_, ShutCause::Unasked) => Fates::new(Fate::Broken, Fate::Aborted),
         }
     }
 
-    /// The fate of the next request that leaves, whose response is due at this moment.
-    pub fn fate(self, due: u64) -> Fate
-        ensures { result ≡ fate_at self due }
+    /// The fate of the next request that leaves.
+    pub fn fate(self) -> Fate
+        ensures { result ≡ next_fate self }
     {
-        match self.first {
-            Some(fate) => fate,
-            None => self.behind.fate(due),
-        }
+        self.first.unwrap_or(self.behind)
     }
 
     /// The same once the first request has left.

@@ -4,6 +4,7 @@
 //! - `Pipe`: the requests that were sent on one connection, from connecting until it is shut, and
 //!   the responses to them; `Link`: how far the connection is.
 //! - `Waiter`: one that waits for a response; `Asker`: who that is.
+//! - `Window`: since when how many bytes came on a connection.
 //! - `ShutCause`: why a connection was shut; `Fate`: what that makes of a request.
 #![tactic(auto)]
 
@@ -13,9 +14,11 @@ mod law;
 mod link;
 mod pipe;
 mod waiter;
+mod window;
 
-pub use fates::{Behind, Fate, Fates, ShutCause};
+pub use fates::{Fate, Fates, ShutCause};
 pub use law::pipe_life;
 pub use link::Link;
 pub use pipe::Pipe;
 pub use waiter::{Asker, Waiter};
+pub use window::{PROGRESS, Window};

@@ -3,10 +3,10 @@ ghost use Rattle.std.specs.Prelude.{◌≡◌, ◌≤◌, ◌<◌, ℕ, List, []
 ghost use Rattle.std.specs.Option.{option_copied};
 ghost use Rattle.tko_pipe.specs.Ends.{ExpireEnds, GotEnds, LeaveEnds, TakeEnds};
 ghost use Rattle.tko_pipe.specs.Fates.{fates_of};
-ghost use Rattle.tko_pipe.specs.Pipes.{IsCause, IsConnected, IsLive, IsPushed, IsShut, IsWritten, is_asked, is_first_written, is_silent, lengths_of, opened_pipe, pushing, shutting};
+ghost use Rattle.tko_pipe.specs.Pipes.{IsCause, IsConnected, IsLive, IsPushed, IsShut, IsWritten, is_asked, is_first_written, is_silent, late_at, lengths_of, opened_pipe, pushing, shutting};
 
 use crate::byte_queue::ByteQueue;
-use crate::{Asker, Fate, Fates, Link, ShutCause, Waiter};
+use crate::{Asker, Fate, Fates, Link, ShutCause, Waiter, Window};
 use std::alloc::Global;
 use std::collections::VecDeque;
 use std::marker::Model;
@@ -31,6 +31,7 @@ pub struct Pipe {
     unread: ByteQueue,
     /// When bytes came last.
     heard: Option<u64>,
+    window: Window,
 }
 
 impl Model for Pipe {
@@ -46,6 +47,7 @@ impl Model for Pipe {
       unwritten = p.unwritten;
       unread = p.unread;
       heard = p.heard;
+      window = p.window;
     } };
 
     ghost invariant = { λ p. (p.queued ≡ lengths_of p.waiters.items)
@@ -66,6 +68,7 @@ impl Pipe {
             unwritten: ByteQueue::new(alloc),
             unread: ByteQueue::new(alloc),
             heard: None,
+            window: Window::unbegun(),
         }
     }
 
@@ -138,6 +141,7 @@ impl Pipe {
             return Err(ShutCause::Memory);
         }
         self.heard = Some(now);
+        self.window = self.window.after_read(now, bytes.len());
         Ok(())
     }
 
@@ -207,14 +211,22 @@ impl Pipe {
         }
     }
 
+    /// When the first response is late, if one is awaited and no byte comes: one time limit after
+    /// its request, and after the last moment at which the connection had brought 64 KiB more.
+    pub fn late_at(&self) -> Option<u64>
+        ensures { result ≡ late_at self.now }
+    {
+        let first = self.waiters.front()?;
+        Some(self.window.late_after(self.limit, first.due))
+    }
+
     /// Shuts the connection if the first response is late at this moment, and returns for which
     /// cause. Those behind it are not looked at: one time limit for all makes them due later.
     pub fn expire(&mut self, now: u64) -> Option<ShutCause>
         requires { IsLive self.old.link }
         ensures { ExpireEnds self.old now result self.new }
     {
-        let due = self.waiters.front()?.due;
-        if due > now {
+        if self.late_at()? > now {
             return None;
         }
         if is_silent(self.heard, self.limit, now) {
@@ -248,7 +260,7 @@ impl Pipe {
         let waiter = self.waiters.pop_front()?;
         self.queued -= waiter.len;
         self.link = Link::Shut(fates.without_first());
-        Some((waiter.by, fates.fate(waiter.due)))
+        Some((waiter.by, fates.fate()))
     }
 }
 

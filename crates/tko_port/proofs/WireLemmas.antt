@@ -2,18 +2,19 @@
 use Rattle.std.proofs.Common.{arith, inl, inr, ◌≡◌, ◌≢◌, ◌<◌, ◌≤◌, ℕ, Bool, true, false, List, [], ◌∷◌, ◌++◌, refl, sym, ap, ◌∙◌, length, take, drop, Option, Some, None}
 use Rattle.std.specs.Bool.{OnFalse, OnTrue}
 use Rattle.std.specs.Prelude.{◌==◌, not, IfSome, IsSome, slice_get}
+use Rattle.std.specs.Option.{option_and_then}
 use Rattle.std.proofs.lemmas.List.{append_cancel_left, take-append-drop}
 use Rattle.std.proofs.lemmas.Bool.Decides.{eqb_tells}
 use Rattle.std.proofs.lemmas.Option.{slice_get_within}
 use Rattle.tko_pipe.specs.declared.fates.ShutCause.{ShutCause}
 use Rattle.tko_pipe.specs.declared.link.Link.{Link}
 use Rattle.tko_pipe.specs.declared.link.Link.TheVariants.{Connected, Connecting}
-use Rattle.tko_pipe.specs.Pipes.{IsCause, IsWritten, PipeState}
+use Rattle.tko_pipe.specs.Pipes.{IsCause, IsWritten, PipeState, is_reached, late_at}
 use Rattle.tko_roster.proofs.SlotLemmas.{get_set_other, get_set_same}
-use Rattle.tko_mux.specs.Lines.{IsOnLive, LineState, first_on, line_by, link_on, unwritten_on}
+use Rattle.tko_mux.specs.Lines.{IsOnLive, LineState, line_by, link_on, unwritten_on}
 use Rattle.tko_mux.specs.Muxes.{HasNoneLeaving, IsOnLine}
 use Rattle.tko_port.specs.Ports.{PortState as ReadyState}
-use Rattle.tko_port.specs.Wires.{CannotWriteTo, IsGivenUp, IsHeld, IsNotWritable, IsOpen, OtherLines, first_at, is_first_late, link_at, unwritten_at}
+use Rattle.tko_port.specs.Wires.{CannotWriteTo, IsGivenUp, IsHeld, IsNotWritable, IsOpen, OtherLines, is_first_late, link_at, unwritten_at}
 
 -- what is known of the line to a server is known of its connection
 pub connected_line : (line : Option LineState) → link_at line ≡ Some Connected
@@ -113,13 +114,13 @@ pub none_spent : (empty : Bool) (list spent : List ℕ) → empty ≡ (length li
 none_spent true list spent is same = sym same ∙ no_text list (sym is)
 none_spent false list spent is same = tt
 
-late_pipe : (pipe : Option PipeState) (now : ℕ) → is_first_late (first_on pipe) now ≡ true
-    → IsSome pipe
+late_pipe : (pipe : Option PipeState) (now : ℕ)
+    → is_reached (option_and_then late_at pipe) now ≡ true → IsSome pipe
 late_pipe None now late = absurd (let both : false ≡ true = late in let f : ⊥ = cc both in f)
 late_pipe (Some it) now late = refl
 
 -- a late response is awaited on a connection
-pub late_line : (line : Option LineState) (now : ℕ) → is_first_late (first_at line) now ≡ true
+pub late_line : (line : Option LineState) (now : ℕ) → is_first_late line now ≡ true
     → IfSome line (λ it. IsSome it.pipe)
 late_line None now late = tt
 late_line (Some line) now late = late_pipe line.pipe now late

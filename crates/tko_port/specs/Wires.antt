@@ -1,12 +1,13 @@
 -- A server's socket: when nothing can be done on it before its next event, and what was done on it.
-use Rattle.std.specs.Prelude.{◌≡◌, ◌≢◌, ◌⊎◌, ◌<◌, ◌≤◌, nat_le, ℕ, Bool, true, false, List, [], Option, Some, None, Result, Ok, Err, length, option_map, slice_get, take}
+use Rattle.std.specs.Prelude.{◌≡◌, ◌≢◌, ◌⊎◌, ◌<◌, ◌≤◌, ℕ, Bool, true, false, List, [], Option, Some, None, Result, Ok, Err, length, option_map, slice_get, take}
+use Rattle.std.specs.Option.{option_and_then}
 use Rattle.tko_pipe.specs.declared.fates.ShutCause.{ShutCause}
 use Rattle.tko_pipe.specs.declared.fates.ShutCause.TheVariants as cause
 use Rattle.tko_pipe.specs.declared.link.Link.{Link}
 use Rattle.tko_pipe.specs.declared.link.Link.TheVariants.{Connected, Connecting}
 use Rattle.tko_pipe.specs.declared.waiter.Waiter.{Waiter}
 use Rattle.tko_pipe.specs.Ends.{ExpireEnds, GotEnds}
-use Rattle.tko_pipe.specs.Pipes.{IsConnected, IsShut, IsWritten, shutting}
+use Rattle.tko_pipe.specs.Pipes.{IsConnected, IsShut, IsWritten, is_reached, late_at, shutting}
 use Rattle.tko_mux.specs.Lines.{IsOnLive, IsOnPipe, LineState, first_on, link_on, unwritten_on}
 use Rattle.tko_mux.specs.Linking.{AreLinked}
 use Rattle.tko_mux.specs.Muxes.{HasNoneLeaving, IsOnLine, MuxState, line_at}
@@ -53,14 +54,17 @@ abbrev pub first_at : Option LineState → Option Waiter
 first_at None = None
 first_at (Some line) = first_on line.pipe
 
--- when the first response of a server is due, if one is awaited
-abbrev pub due_at : List LineState → ℕ → Option ℕ
-due_at lines server = option_map (λ first. first.due) (first_at (slice_get lines server))
+-- when the first response of a server is late, if one is awaited and no byte comes
+abbrev pub due_of : Option LineState → Option ℕ
+due_of None = None
+due_of (Some line) = option_and_then late_at line.pipe
 
--- the response to it is late at this moment
-abbrev pub is_first_late : Option Waiter → ℕ → Bool
-is_first_late None now = false
-is_first_late (Some first) now = nat_le first.due now
+abbrev pub due_at : List LineState → ℕ → Option ℕ
+due_at lines server = due_of (slice_get lines server)
+
+-- the first response of a server is late at this moment
+abbrev pub is_first_late : Option LineState → ℕ → Bool
+is_first_late line now = is_reached (due_of line) now
 
 -- there is a port, and nothing can be read from it
 abbrev pub IsNotReadable : Option PortState → Type 0
@@ -188,7 +192,7 @@ pub data HasFailed (server : ℕ) (why : ShutCause) (old new : List LineState) :
 
 -- the connection to a server, whose first response is late at this moment, was shut
 pub record HasExpired (server now : ℕ) (old new : List LineState) : Type 0 where
-  pub late : is_first_late (first_at (slice_get old server)) now ≡ true
+  pub late : is_first_late (slice_get old server) now ≡ true
   pub cause : Option ShutCause
   pub on : IsOnLine (λ was it. IsOnPipe (λ p q. ExpireEnds p now cause q) was it) old server new
 

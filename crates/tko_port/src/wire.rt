@@ -4,7 +4,7 @@ ghost use Rattle.std.specs.Bool.{OnFalse, OnTrue};
 ghost use Rattle.tko_pipe.specs.Pipes.{IsCause, PipeState};
 ghost use Rattle.tko_mux.specs.Linking.{AreLinked};
 ghost use Rattle.tko_mux.specs.Muxes.{line_at};
-ghost use Rattle.tko_port.specs.Wires.{AreGivenUp, CannotWriteTo, FindsNothing, HasCome, HasRead, HasWritten, IsConnectionMade, IsNotWritable, IsOpen, KeepsSessions, LeavesPort, OtherLines, ReadsFromPort, WritesPiece, due_at, first_at, is_first_late, link_at, unwritten_at};
+ghost use Rattle.tko_port.specs.Wires.{AreGivenUp, CannotWriteTo, FindsNothing, HasCome, HasRead, HasWritten, IsConnectionMade, IsNotWritable, IsOpen, KeepsSessions, LeavesPort, OtherLines, ReadsFromPort, WritesPiece, due_at, is_first_late, link_at, unwritten_at};
 
 use crate::{Port, Read};
 use tko_mux::{Asking, Mux};
@@ -66,24 +66,21 @@ pub fn is_open<P, S: Asking<P> + Drop>(mux: &Mux<S, P>, server: usize) -> bool
 
 /// Whether the first response of a server is late at this moment.
 pub fn is_late<P, S: Asking<P> + Drop>(mux: &Mux<S, P>, server: usize, now: u64) -> bool
-    ensures { result ≡ is_first_late (first_at (line_at mux.now server)) now }
+    ensures { result ≡ is_first_late (line_at mux.now server) now }
 {
-    let Some(line) = mux.line(server) else {
-        return false;
-    };
-    match line.first() {
-        Some(first) => first.due <= now,
+    match first_due(mux, server) {
+        Some(due) => due <= now,
         None => false,
     }
 }
 
-/// When the first response of a server is due.
+/// When the first response of a server is late, if one is awaited and no byte comes.
 pub fn first_due<P, S: Asking<P> + Drop>(mux: &Mux<S, P>, server: usize) -> Option<u64>
     ensures { result ≡ due_at mux.now.lines server }
 {
     let line = mux.line(server)?;
-    let first = line.first()?;
-    Some(first.due)
+    let pipe = line.pipe()?;
+    pipe.late_at()
 }
 
 /// What is to be written to a server.

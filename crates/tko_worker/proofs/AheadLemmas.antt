@@ -1,14 +1,16 @@
 -- What lies ahead of one server more.
-use Rattle.std.proofs.Common.{◌≡◌, ◌≢◌, ◌<◌, ◌≤◌, ◌+◌, ℕ, List, sym, ap, subst, ◌∙◌, ◌⊎◌, inl, inr, refl, arith, Option, Some, None}
+use Rattle.std.proofs.Common.{◌≡◌, ◌≢◌, ◌<◌, ◌≤◌, ◌+◌, ℕ, List, [], ◌∷◌, sym, ap, subst, ◌∙◌, ◌⊎◌, inl, inr, refl, arith, Option, Some, None}
 use Rattle.std.specs.Prelude.{◌&&◌, ◌||◌, length, option_map, slice_get, slice_set}
 use Rattle.std.specs.Option.{option_and_then}
 use Rattle.std.proofs.lemmas.Bool.{OnFalse_at, OnFalse_from, OnTrue_at, OnTrue_from, and_parts, cases_lt, cond-false, cond-true, le-leb, lt-leb, or_parts}
 use Rattle.tko_roster.proofs.SlotLemmas.{get_set_other, get_set_same}
 use Rattle.tko_pipe.specs.declared.waiter.Waiter.{Waiter}
-use Rattle.tko_mux.specs.Lines.{LineState}
+use Rattle.tko_pipe.specs.declared.window.Window.{Window}
+use Rattle.tko_pipe.specs.Pipes.{PipeState, first_late, late_at}
+use Rattle.tko_mux.specs.Lines.{LineState, first_on}
 use Rattle.tko_port.specs.declared.peer.Peer.{Peer}
 use Rattle.tko_port.specs.Ports.{PortState}
-use Rattle.tko_port.specs.Wires.{CannotWriteTo, IsOpen, OtherLines, due_at, first_at}
+use Rattle.tko_port.specs.Wires.{CannotWriteTo, IsOpen, OtherLines, due_at, due_of, first_at}
 use Rattle.tko_worker.specs.declared.resting.Outlook.{Outlook}
 use Rattle.tko_worker.specs.Turns.{AreAhead, AreWritten, IsAhead, IsNextDue, IsWanted, NoneWanted, ServerRests, ServersRest, earlier, socket_at}
 
@@ -20,21 +22,33 @@ each_next P count before it n below = elim (cases_lt n count) [
   | inr most ↦ (let same : count ≡ n = omega arith in subst P same it)
 ]
 
-abbrev due_on : Option LineState → Option ℕ
-due_on line = option_map (λ (first : Waiter). first.due) (first_at line)
+nobody_on : (waiters : List Waiter) (window : Window) (limit : ℕ)
+    → first_late waiters window limit ≡ None → slice_get waiters 0 ≡ None
+nobody_on [] window limit none = refl
+nobody_on (first ∷ others) window limit none = absurd (let f = none in cc)
+
+nobody_with : (pipe : Option PipeState) → option_and_then late_at pipe ≡ None
+    → first_on pipe ≡ None
+nobody_with None none = refl
+nobody_with (Some it) none = nobody_on it.waiters it.window it.limit none
+
+-- where no response can be late, nobody waits for one
+pub nobody_waits : (line : Option LineState) → due_of line ≡ None → first_at line ≡ None
+nobody_waits None none = refl
+nobody_waits (Some line) none = nobody_with line.pipe none
 
 -- the first moment is the same where the lines are
 due_moved : (lines new : List LineState) (count : ℕ) (next : Option ℕ)
     → ((n : ℕ) → n < count → slice_get new n ≡ slice_get lines n)
     → IsNextDue lines count next → IsNextDue new count next
 due_moved lines new count None same before =
-    λ n below. ap due_on (same n below) ∙ before n below
+    λ n below. ap due_of (same n below) ∙ before n below
 due_moved lines new count (Some moment) same before = (
-  λ server due below at. before.0 server due below (sym (ap due_on (same server below)) ∙ at),
+  λ server due below at. before.0 server due below (sym (ap due_of (same server below)) ∙ at),
   (
     before.1.0,
     before.1.1,
-    ap due_on (same before.1.0 before.1.1) ∙ before.1.2,
+    ap due_of (same before.1.0 before.1.1) ∙ before.1.2,
   ),
 )
 

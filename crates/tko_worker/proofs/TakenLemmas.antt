@@ -19,7 +19,7 @@ use Rattle.tko_mux.specs.Muxes.{GoesToClient, IsOnLine, IsResponseRead, MuxState
 use Rattle.tko_port.specs.Peers.{delivery_in}
 use Rattle.tko_port.specs.declared.peer.Peer.{Peer}
 use Rattle.tko_port.specs.Ports.{PortState}
-use Rattle.tko_port.specs.Wires.{IsOpen, first_at, is_first_late}
+use Rattle.tko_port.specs.Wires.{IsOpen, is_first_late}
 use Rattle.tko_port.specs.declared.guest.Guest.{Guest}
 use Rattle.tko_port.specs.declared.guest.SharedParts.{SharedParts}
 use Rattle.tko_port.specs.declared.guest.Turned.{Turned}
@@ -173,7 +173,7 @@ drained_by {L} {T} {P} waits_for old new server port is_open taken nothing = rec
 pub still_done : {L T P : Type 0} (port : L → PortState) (waits_for : WaitsFor (Guest L T))
     (moment : ℕ) (old new : WorkerState L T P) (was now : Peer L) (server : ℕ) (late : Bool)
     → OnFalse late ((new ≡ old) × (now ≡ was))
-    → OnFalse late (is_first_late (first_at (line_at old.mux server)) moment ≡ false)
+    → OnFalse late (is_first_late (line_at old.mux server) moment ≡ false)
     → IsDrained waits_for old.mux server (option_map port was.socket)
     → OnTrue (not late)
     (IsServerDone waits_for new.mux server (option_map port now.socket) moment)

@@ -22,7 +22,7 @@ use Rattle.tko_port.specs.declared.guest.Turned.{Turned}
 use Rattle.tko_port.specs.Guests.{IsGuestCall}
 use Rattle.tko_port.specs.Ports.{PortState}
 use Rattle.tko_port.specs.declared.peer.Peer.{Peer}
-use Rattle.tko_port.specs.Wires.{CannotRead, HasExpired, HasReadOn, IsOpen, first_at, is_first_late}
+use Rattle.tko_port.specs.Wires.{CannotRead, HasExpired, HasReadOn, IsOpen, is_first_late}
 use Rattle.tko_worker.specs.Changes.{OnlyLinesChange}
 use Rattle.tko_worker.specs.Counts.{MuxAndEnds}
 use Rattle.tko_worker.specs.Workers.{ListEnds, Sight, WorkerState}
@@ -70,7 +70,7 @@ pub record IsNothingRead {L T P : Type 0} (old : WorkerState L T P) (server : �
 pub record IsServerDone {S P : Type 0} (waits_for : WaitsFor S) (mux : MuxState S P) (server : ℕ)
     (port : Option PortState) (now : ℕ) : Type 0 where
   pub drained : IsDrained waits_for mux server port
-  pub time : is_first_late (first_at (line_at mux server)) now ≡ false
+  pub time : is_first_late (line_at mux server) now ≡ false
 
 -- what reading once from a server came to: bytes came, or its connection was shut; or nothing can
 -- be read, and nothing changed. No client changes by it
@@ -85,7 +85,7 @@ pub record IsReadOnce {L T P : Type 0} (server now : ℕ) (old : WorkerState L T
 pub record IsShutIfLate {L T P : Type 0} (server now : ℕ) (old : WorkerState L T P)
     (was is : Peer L) (late : Bool) (new : WorkerState L T P) : Type 0 where
   pub shut : OnTrue late (HasExpired server now old.mux.lines new.mux.lines)
-  pub time : OnFalse late (is_first_late (first_at (line_at old.mux server)) now ≡ false)
+  pub time : OnFalse late (is_first_late (line_at old.mux server) now ≡ false)
   pub kept : OnFalse late ((new ≡ old) × (is ≡ was))
   pub clients : OnlyLinesChange old new
 

@@ -7,7 +7,7 @@ use Rattle.tko_mux.specs.declared.asking.Came.{Came}
 use Rattle.tko_mux.specs.Lines.{LineState}
 use Rattle.tko_port.specs.declared.peer.Peer.{Peer}
 use Rattle.tko_port.specs.Ports.{PortState}
-use Rattle.tko_port.specs.Wires.{CannotRead, CannotWriteTo, IsNotReadable, IsOpen, due_at, first_at, is_first_late, link_at, unwritten_at}
+use Rattle.tko_port.specs.Wires.{CannotRead, CannotWriteTo, IsNotReadable, IsOpen, due_at, due_of, first_at, is_first_late, link_at, unwritten_at}
 use Rattle.tko_worker.specs.declared.resting.Outlook.{Outlook}
 
 -- the port of the socket to a server, if there is one
@@ -25,7 +25,7 @@ pub record ServerRests (now : ℕ) (line : Option LineState) (port : Option Port
   pub is_open : IsOpen line
   pub read : CannotRead line port
   pub write : CannotWriteTo line port
-  pub time : is_first_late (first_at line) now ≡ false
+  pub time : is_first_late line now ≡ false
 
 -- each of so many servers rests
 abbrev pub ServersRest : {L : Type 0} → (L → PortState) → ℕ → List LineState → List (Peer L) → ℕ
@@ -82,7 +82,7 @@ pub record IsLineIdle (line : Option LineState) (port : Option PortState) : Type
 pub record IsAhead (now : ℕ) (line : Option LineState) (port : Option PortState) (it : Outlook)
     : Type 0 where
   pub rests : OnTrue it.rests (ServerRests now line port)
-  pub due : it.due ≡ option_map (λ first. first.due) (first_at line)
+  pub due : it.due ≡ due_of line
   pub wants : OnFalse it.wants (IsWanted line port → ⊥)
 
 -- and of so many servers

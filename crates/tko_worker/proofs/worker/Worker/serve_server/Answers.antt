@@ -1,7 +1,7 @@
 use Rattle.std.proofs.Common.{◌≡◌, false, subst}
 use Rattle.std.specs.Bool.{OnFalse}
 use Rattle.tko_mux.specs.Muxes.{line_at}
-use Rattle.tko_port.specs.Wires.{first_at, is_first_late}
+use Rattle.tko_port.specs.Wires.{is_first_late}
 use Rattle.tko_worker.proofs.TakenLemmas.{still_done}
 use Rattle.tko_worker.proofs.ActedLemmas.{acted_on, lines_acted}
 use Rattle.tko_worker.proofs.worker.Worker.serve_server.Goals as goal
@@ -12,7 +12,7 @@ returns-clause-done g c =
     c.pull.new.self c.expire.new.self c.pull.new.peer c.expire.new.peer c.args.server
     c.expire.result c.expire.ensures.late.kept
     (subst (λ now. OnFalse c.expire.result
-    (is_first_late (first_at (line_at c.pull.new.self.mux c.args.server)) now ≡ false))
+    (is_first_late (line_at c.pull.new.self.mux c.args.server) now ≡ false))
     c.judged.ensures c.expire.ensures.late.time)
     c.if-not-pull.ensures.drained
 
