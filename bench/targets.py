@@ -43,12 +43,12 @@ listen bench
 class Target:
     """A process that listens at an address, and the processor time that it used so far."""
 
-    def __init__(self, name, words, port):
+    def __init__(self, name, words, port, errors=subprocess.DEVNULL):
         self.name = name
         self.port = port
         self.address = f"{HOST}:{port}"
         self.process = subprocess.Popen(words, stdin=subprocess.DEVNULL, stdout=subprocess.DEVNULL,
-                                        stderr=subprocess.DEVNULL)
+                                        stderr=errors)
         try:
             wait_until(lambda: self.process.poll() is not None or is_open(port), 10, f"{name} listens")
         except BaseException:
@@ -136,10 +136,10 @@ def config_of(servers):
     return {"pools": {"all": {"servers": servers}}, "route": "PoolRoute|all"}
 
 
-def tkoproxy_of(name, program, config, options):
+def tkoproxy_of(name, program, config, options, errors=subprocess.DEVNULL):
     port = free_port()
     words = [program, "serve", "--listen", f"{HOST}:{port}", "--config", json.dumps(config), *options]
-    return Target(name, words, port)
+    return Target(name, words, port, errors)
 
 
 def nutcracker(servers, folder):

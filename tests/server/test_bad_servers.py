@@ -3,7 +3,7 @@ import threading
 import time
 
 from fakes import key_of
-from parts import ServerTest, configuration
+from parts import ServerTest, configuration, only_in
 from ports import wait_until
 from talk import store, values
 
@@ -106,6 +106,23 @@ class BadServers(ServerTest):
         reply, seconds = client.timed(b"get a\r\n")
         self.assertEqual(reply, values((b"a", b"far")))
         self.assertLess(seconds, TIMEOUT + SLACK)
+
+    @only_in("threads", "an event-driven worker has one time limit for a whole response")
+    def test_one_that_sends_a_large_value_slowly(self):
+        """It takes longer than the limit in all, and makes progress all the time."""
+        large = b"x" * 1000000
+
+        def slow(connection, request):
+            answer = values((key_of(request), large))
+            for place in range(0, len(answer), 150000):
+                time.sleep(TIMEOUT * 0.3)
+                connection.sendall(answer[place:place + 150000])
+
+        proxy, client = self.before_memcached(slow)
+        reply, seconds = client.timed(b"get a\r\n")
+        self.assertEqual(len(reply), len(values((b"a", large))))
+        self.assertGreater(seconds, TIMEOUT * 1.5)
+        self.assertEqual(self.mark(proxy), "up:0")
 
     def test_one_that_takes_most_of_the_limit_each_time(self):
         limit = 5

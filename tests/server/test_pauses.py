@@ -7,7 +7,7 @@ import subprocess
 import sys
 import time
 
-from parts import ServerTest, configuration, only_in, start, stop
+from parts import MODE, ServerTest, configuration, only_in, start, stop
 from ports import wait_until
 from talk import store, values
 
@@ -73,11 +73,16 @@ def pause(processes):
     time.sleep(BETWEEN)
 
 
-@only_in("events", "a link of --mode threads takes a pause for time of its server")
+def workers_for(clients):
+    """With `--mode threads` each client needs a worker of its own, and the one that asks for the marks too."""
+    return clients + 1 if MODE == "threads" else 2
+
+
 class Pauses(ServerTest):
     def setup(self, clients, **options):
         self.servers = [self.memcached(), self.memcached()]
-        self.running = self.proxy(configuration(only=self.servers), timeout=int(TIMEOUT * 1000), **options)
+        self.running = self.proxy(configuration(only=self.servers), timeout=int(TIMEOUT * 1000),
+                                  threads=workers_for(clients), **options)
         self.crowd = self.kept(StoppableCrowd(self.running.port, clients))
         self.more(clients)
 
@@ -101,23 +106,24 @@ class Pauses(ServerTest):
         return [self.running.process, self.crowd.process, *(server.process for server in self.servers)]
 
     def test_of_the_proxy(self):
-        self.setup(50, threads=2)
+        self.setup(50)
         self.stops(50, [self.running.process], 1)
 
     def test_of_everything(self):
-        self.setup(50, threads=2)
+        self.setup(50)
         self.stops(50, self.everything(), 1)
 
     def test_of_the_proxy_three_times_in_a_row(self):
-        self.setup(50, threads=2)
+        self.setup(50)
         self.stops(50, [self.running.process], 3)
 
     def test_of_everything_three_times_in_a_row(self):
-        self.setup(200, threads=2)
+        self.setup(200)
         self.stops(200, self.everything(), 3)
 
+    @only_in("events", "there several keys may be under way")
     def test_with_several_keys_at_once(self):
-        self.setup(50, threads=2, keys_at_once=64)
+        self.setup(50, keys_at_once=64)
         self.stops(50, [self.running.process], 1)
 
     def test_a_quiet_client_stays(self):

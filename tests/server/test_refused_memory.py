@@ -1,5 +1,7 @@
 """Each call for memory refused in turn: the fault is `memory` alone, and what was written by then is right."""
 import itertools
+import socket
+import threading
 from pathlib import Path
 
 from parts import configuration, only_in, serve_words, stop
@@ -179,6 +181,56 @@ class RefusedMemory(RefusingTest):
     @only_in("events", "there several keys may be under way")
     def test_several_keys_in_one_get(self):
         self.several_keys(group_keys=True)
+
+    def beside_with(self, refused):
+        """What a client gets whose request is under way while memory runs out for the next one on its connection, before
+        that is sent; and whether there was such a call for memory, until it was sent or its client closed."""
+        counted, asked, over = Path(self.folder.name, "counted"), threading.Event(), threading.Event()
+
+        def behave(_, request):
+            if request == b"get first\r\n":
+                asked.set()
+                over.wait(60)
+            return b"END\r\n"
+
+        port, server = free_port(), self.fake(behave)
+        options = {"connections": 2, "threads": 1, "log": "off", "timeout": 60000}
+        process, told = self.start_refused(serve_words(port, configuration(only=[server]), options),
+                                           {"REFUSED_CALL": refused, "REFUSED_FROM": counted})
+        with told:
+            self.assertEqual(process.stdout.readline(), b"ready\n")
+            with Client(port) as first, Client(port) as second:
+                first.send(b"get first\r\n")
+                self.assertTrue(asked.wait(60))
+                # (so that the second client was accepted)
+                self.assertEqual(second.ask(b"version\r\n"), b"VERSION tkoproxy 1\r\n")
+                counted.touch()
+                second.send(b"get second\r\n")
+                wait_until(lambda: self.has_come(server.connections[0]) or not second.is_quiet(0.01), 60,
+                           "the second request is sent, or its client closed")
+                counted.unlink()
+                over.set()
+                reply = first.reply()
+            process.communicate()
+            stop(process)
+            return reply, bool(told.read())
+
+    @staticmethod
+    def has_come(connection):
+        """Whether bytes lie there that were not read yet."""
+        try:
+            return connection.recv(1, socket.MSG_PEEK | socket.MSG_DONTWAIT) != b""
+        except BlockingIOError:
+            return False
+
+    @only_in("events", "there clients share a connection")
+    def test_a_request_that_is_not_begun_cuts_no_other(self):
+        for call in itertools.count(1):
+            reply, refused = self.beside_with(call)
+            self.assertEqual(reply, b"END\r\n", f"call {call}")
+            if not refused:
+                break
+        self.assertGreater(call, 1)
 
     def late_server(self, counted):
         """A server that is not open yet. Its answer to a probe is long, and a `get` removes this file."""

@@ -1,1 +1,2 @@
 mod TcpLemmas
+mod TimeLemmas

@@ -9,7 +9,7 @@ use Rattle.std.proofs.Math.Seq.{map-set_same}
 use Rattle.tko_model.specs.Records.{Gains, Lead}
 use Rattle.tko_tcp.specs.declared.tcp_server.TcpServer.{TcpServer}
 use Rattle.tko_links.specs.declared.wire.WireFault.{WireFault}
-use Rattle.tko_tcp.specs.TcpWires.{IsTcpRecord, IsTcpStep, TcpState, address_of}
+use Rattle.tko_tcp.specs.TcpWires.{IsTcpRecord, IsTcpStep, TcpState}
 use Rattle.tko_tcp.specs.TcpWires.{connected_after_all, is_open, least_failures}
 use Rattle.tko_tcp.specs.TcpWires.{most_failures, time_limit_of}
 use Rattle.tko_links.specs.Wires.{WireItem, connect_item, is_ok, read_item, wire_faults_in}

@@ -16,6 +16,7 @@ mod limited_stream;
 mod named_host;
 mod names;
 mod probe_time;
+mod progress;
 mod reached;
 mod server_host;
 mod shares;

@@ -3,7 +3,7 @@ ghost use Rattle.std.specs.Prelude.{◌≡◌, ◌≤◌, IfOk, length};
 
 use libc::net::{POLLIN, poll};
 use libc::types::pollfd;
-use std::io::{Read, Result, Write};
+use std::io::{Error, ErrorKind, Read, Result, Write};
 use std::net::TcpStream;
 use std::os::fd::AsRawFd;
 use std::time::Duration;
@@ -52,6 +52,18 @@ impl LimitedStream {
         if self.read_limit != limit {
             self.stream.set_read_timeout(Some(limit))?;
             self.read_limit = limit;
+        }
+        self.stream.read(buffer)
+    }
+
+    /// Reads what has come into the front of `buffer`, and returns how many bytes that were. If
+    /// nothing has come, it times out at once.
+    pub(crate) fn read_now(&mut self, buffer: &mut [u8]) -> Result<usize>
+        ensures count { IfOk result (λ count. count ≤ length buffer.new) }
+        ensures limit { self.new.read_limit ≡ self.old.read_limit }
+    {
+        if self.is_quiet() {
+            return Err(Error::from(ErrorKind::TimedOut));
         }
         self.stream.read(buffer)
     }

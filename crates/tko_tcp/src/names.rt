@@ -3,6 +3,7 @@ ghost use Rattle.std.specs.Prelude.{◌≡◌, ◌<◌, IfOk, IfSome, Some, leng
 ghost use Rattle.std.specs.Arc.{arc_value};
 ghost use Rattle.std.specs.Bool.{OnTrue};
 ghost use Rattle.tko_tcp.specs.declared.host_state.HostState.{HostState};
+ghost use Rattle.tko_tcp.specs.ExchangeTimes.{IsLater};
 ghost use Rattle.tko_tcp.specs.Hosts.{IsNext};
 ghost use Rattle.tko_tcp.specs.ServerHosts.{name_at};
 
@@ -15,7 +16,6 @@ use std::alloc::{AllocError, Global};
 use std::net::IpAddr;
 use std::sync::atomic::{AtomicBool, AtomicU64, Ordering};
 use std::sync::{Arc, Mutex, Wait};
-use std::time::Instant;
 use tko_bytes::NoMemory;
 use tko_io::IoRuntime;
 
@@ -192,8 +192,10 @@ impl Names {
         &self,
         rt: &R,
         host: &HostEntry,
-        time: &ExchangeTime,
-    ) -> Option<ResolvedAddresses> {
+        time: &mut ExchangeTime,
+    ) -> Option<ResolvedAddresses>
+        ensures { IsLater time.old time.new }
+    {
         let mut since = None;
         for _ in rt.forever() {
             let answers = self.shared.answers.load(Ordering::SeqCst);
@@ -202,10 +204,11 @@ impl Names {
                 ConnectStep::Wait(ended) => since = Some(ended),
                 ConnectStep::GiveUp => return None,
             }
-            let left = time.left(Instant::now(rt).ok())?;
+            time.look(rt);
+            let turn = time.turn()?;
             self.wake_resolver();
             let answers_then = low_half(answers);
-            self.shared.answers.park_timeout(rt, answers_then, left);
+            self.shared.answers.park_timeout(rt, answers_then, turn);
         }
         unreachable!()
     }

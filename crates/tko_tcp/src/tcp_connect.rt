@@ -1,11 +1,14 @@
 //! Connecting to a server by its address, within a time limit.
+ghost use Rattle.tko_tcp.specs.ExchangeTimes.{IsLater};
 
 use crate::exchange_time::ExchangeTime;
 use crate::names::Names;
 use crate::tcp_address::host_and_port;
+use libc::net::{POLLOUT, poll};
+use libc::types::pollfd;
 use std::io::{Error, ErrorKind, Result};
 use std::net::{IpAddr, SocketAddr, TcpStream};
-use std::time::Instant;
+use std::os::fd::AsRawFd;
 use tko_io::IoRuntime;
 
 /// Connects to a server. If its host is a name, it must be one of `names`: `connect` waits for its
@@ -14,8 +17,10 @@ pub(crate) fn connect<R: IoRuntime>(
     rt: &R,
     names: &Names,
     address: &str,
-    time: &ExchangeTime,
-) -> Result<TcpStream> {
+    time: &mut ExchangeTime,
+) -> Result<TcpStream>
+    ensures { IsLater time.old time.new }
+{
     let Some((host, port)) = host_and_port(address) else {
         return Err(Error::from(ErrorKind::InvalidInput));
     };
@@ -52,10 +57,12 @@ fn connect_any<R: IoRuntime>(
     addresses: &[SocketAddr],
     first: usize,
     port: u16,
-    time: &ExchangeTime,
-) -> Result<(TcpStream, usize)> {
+    time: &mut ExchangeTime,
+) -> Result<(TcpStream, usize)>
+    ensures { IsLater time.old time.new }
+{
     let mut last = Error::from(ErrorKind::AddrNotAvailable);
-    let mut untried = u32::try_from(addresses.len()).unwrap_or(u32::MAX);
+    let mut untried = addresses.len() as u64;
     let mut place = first;
     for _ in addresses {
         if addresses.len() <= place {
@@ -80,11 +87,54 @@ fn connect_any<R: IoRuntime>(
 fn connect_one<R: IoRuntime>(
     rt: &R,
     address: SocketAddr,
-    time: &ExchangeTime,
-    parts: u32,
-) -> Result<TcpStream> {
-    let Some(limit) = time.share(Instant::now(rt).ok(), parts) else {
+    time: &mut ExchangeTime,
+    parts: u64,
+) -> Result<TcpStream>
+    ensures { IsLater time.old time.new }
+{
+    time.look(rt);
+    let Some(share) = time.share(parts) else {
         return Err(Error::from(ErrorKind::TimedOut));
     };
-    TcpStream::connect_timeout(rt, &address, limit)
+    let stream = TcpStream::from(mio::net::TcpStream::connect(rt, address)?);
+    wait_until_connected(rt, &stream, time, share)?;
+    stream.set_nonblocking(false)?;
+    Ok(stream)
+}
+
+/// Waits until a connection is made that has begun, for so many milliseconds in which the process
+/// runs. It takes too long only if it is not made when it is looked at after them.
+fn wait_until_connected<R: IoRuntime>(
+    rt: &R,
+    stream: &TcpStream,
+    time: &mut ExchangeTime,
+    share: u64,
+) -> Result<()>
+    ensures { IsLater time.old time.new }
+{
+    let end = time.moment().saturating_add(share);
+    for _ in rt.forever() {
+        let left = end.saturating_sub(time.moment());
+        if is_settled(stream, time.wait(left)) {
+            return match stream.take_error()? {
+                Some(error) => Err(error),
+                None => stream.peer_addr().map(drop),
+            };
+        }
+        if left == 0 {
+            return Err(Error::from(ErrorKind::TimedOut));
+        }
+        time.look(rt);
+    }
+    unreachable!()
+}
+
+/// Whether a connection is made or has failed, after at most so many milliseconds.
+fn is_settled(stream: &TcpStream, wait: u64) -> bool {
+    let writable = pollfd {
+        fd: stream.as_raw_fd(),
+        events: POLLOUT,
+        revents: 0,
+    };
+    poll(&mut [writable], i32::try_from(wait).unwrap_or(i32::MAX)) == 1
 }

@@ -1,13 +1,14 @@
 //! One connection to a server, and the time limit of the exchange on it.
 //!
-//! As long as no call of an exchange can have waited, each of its calls gets the whole time limit:
-//! that needs neither a look at the clock nor a new limit of the socket. Each later call gets the
-//! time that is left.
-ghost use Rattle.std.specs.Prelude.{◌≡◌, ◌≤◌, ◌↔◌, true, false, IfErr, IfOk, length};
+//! Each call waits for a quarter of the time limit at most, and is made again as long as time is
+//! left. As long as no call of an exchange can have waited, the time has not begun: that needs
+//! neither a look at the clock nor a new limit of the socket.
+ghost use Rattle.std.specs.Prelude.{◌≡◌, ◌≤◌, ◌↔◌, true, false, IfErr, IfOk, OnErr, length};
 ghost use Rattle.std.specs.IoError.{error_kind};
-ghost use Rattle.tko_tcp.specs.ExchangeTimes.{left_at};
-ghost use Rattle.tko_tcp.specs.TcpConnections.{BeginsExchange, IsAllowed, IsConnectionOpened, IsQuick};
-ghost use Rattle.tko_tcp.specs.WireFaults.{fault_of_kind};
+ghost use Rattle.tko_tcp.specs.ExchangeTimes.{IsLater, came_in};
+ghost use Rattle.tko_tcp.specs.TcpConnections.{BeginsExchange, BeginsRead, IsAllowed};
+ghost use Rattle.tko_tcp.specs.TcpConnections.{IsConnectionOpened, IsQuick, IsReadAllowed};
+ghost use Rattle.tko_tcp.specs.WireFaults.{fault_of_kind, is_passing};
 
 use crate::exchange_time::ExchangeTime;
 use crate::limited_stream::LimitedStream;
@@ -15,7 +16,7 @@ use crate::names::Names;
 use crate::tcp_connect::connect;
 use std::io;
 use std::io::{Error, ErrorKind};
-use std::time::{Duration, Instant};
+use std::time::Duration;
 use tko_io::IoRuntime;
 use tko_links::WireFault;
 
@@ -37,13 +38,13 @@ impl TcpConnection {
         rt: &R,
         names: &Names,
         address: &str,
-        time: ExchangeTime,
+        mut time: ExchangeTime,
     ) -> Result<TcpConnection, WireFault>
         ensures { IfOk result (λ connection. IsConnectionOpened time connection) }
     {
-        let stream = connect(rt, names, address, &time).map_err(fault_of)?;
+        let stream = connect(rt, names, address, &mut time).map_err(fault_of)?;
         stream.set_nodelay(true).map_err(fault_of)?;
-        let socket = LimitedStream::new(stream, time.limit).map_err(fault_of)?;
+        let socket = LimitedStream::new(stream, time.quarter()).map_err(fault_of)?;
         Ok(TcpConnection {
             socket,
             time,
@@ -64,12 +65,14 @@ impl TcpConnection {
     /// Writes from the front of `bytes`, and returns how many bytes were written.
     pub(crate) fn write<R: IoRuntime>(&mut self, rt: &R, bytes: &[u8]) -> Result<usize, WireFault>
         ensures count { IfOk result (λ count. count ≤ length bytes.now) }
-        ensures time { self.new.time ≡ self.old.time }
+        ensures time { IsLater self.old.time self.new.time }
     {
         for _ in rt.forever() {
-            let now = self.moment(rt);
-            match self.try_write(now, bytes) {
-                Err(error) if error.kind() == ErrorKind::Interrupted => {}
+            if self.has_waited {
+                self.time.look(rt);
+            }
+            match self.try_write(bytes) {
+                Err(error) if is_passing(error.kind()) => {}
                 written => return written.map_err(fault_of),
             }
         }
@@ -83,70 +86,74 @@ impl TcpConnection {
         buffer: &mut [u8],
     ) -> Result<usize, WireFault>
         ensures count { IfOk result (λ count. count ≤ length buffer.new) }
-        ensures time { self.new.time ≡ self.old.time }
+        ensures limit { self.new.time.limit ≡ self.old.time.limit }
     {
         for _ in rt.forever() {
-            let now = self.moment(rt);
-            match self.try_read(now, buffer) {
-                Err(error) if error.kind() == ErrorKind::Interrupted => {}
+            self.begin_read(rt);
+            match self.try_read(buffer) {
+                Err(error) if is_passing(error.kind()) => {}
                 read => return read.map_err(fault_of),
             }
         }
         unreachable!()
     }
 
-    /// Tries a write that begins at `now`. A signal may interrupt it.
-    fn try_write(&mut self, now: Option<Instant>, bytes: &[u8]) -> io::Result<usize>
+    /// Tries a write. A signal may interrupt it, and it may take longer than one call may wait.
+    fn try_write(&mut self, bytes: &[u8]) -> io::Result<usize>
         ensures count { IfOk result (λ count. count ≤ length bytes.now) }
-        ensures limit { IfOk result (λ count. IsAllowed self.old now self.new.socket.write_limit) }
+        ensures limit { IfOk result (λ count. IsAllowed self.old.time self.new.socket.write_limit) }
         ensures quick { IfOk result (λ count. (self.new.has_waited ≡ false)
             ↔ IsQuick self.old bytes.now count) }
-        ensures interrupted { IfErr result (λ error. self.new.has_waited ≡ true) }
+        ensures failed { IfErr result (λ error. self.new.has_waited ≡ true) }
         ensures time { self.new.time ≡ self.old.time }
     {
-        let limit = self.allowance(now)?;
         let is_slow = self.has_waited || bytes.len() > QUICK_WRITE;
         self.has_waited = true;
+        let Some(limit) = self.time.turn() else {
+            return Err(Error::from(ErrorKind::TimedOut));
+        };
         let count = self.socket.write(limit, bytes)?;
         self.has_waited = is_slow || count < bytes.len();
         Ok(count)
     }
 
-    /// Tries a read that begins at `now`. A signal may interrupt it.
-    fn try_read(&mut self, now: Option<Instant>, buffer: &mut [u8]) -> io::Result<usize>
-        ensures count { IfOk result (λ count. count ≤ length buffer.new) }
-        ensures limit { IfOk result (λ count. IsAllowed self.old now self.new.socket.read_limit) }
-        ensures waited { self.new.has_waited ≡ true }
-        ensures time { self.new.time ≡ self.old.time }
+    /// A read begins: the time of the exchange goes on, or begins now where no call of it can have
+    /// waited. So the time of a response counts from a moment after its request was written.
+    fn begin_read<R: IoRuntime>(&mut self, rt: &R)
+        ensures { BeginsRead self.old self.new }
     {
-        let limit = self.allowance(now)?;
-        self.has_waited = true;
-        self.socket.read(limit, buffer)
-    }
-
-    /// Reads the clock, if the next call of the exchange depends on the time.
-    fn moment<R: IoRuntime>(&self, rt: &R) -> Option<Instant> {
         if self.has_waited {
-            Instant::now(rt).ok()
+            self.time.look(rt);
         } else {
-            None
+            self.time = ExchangeTime::begin(rt, self.time.limit);
         }
     }
 
-    /// How long a call of the exchange that begins at `now` may take.
-    fn allowance(&self, now: Option<Instant>) -> io::Result<Duration>
-        ensures ok { IfOk result (IsAllowed self.now now) }
-        ensures over { IfErr result (λ error.
-            (self.now.has_waited ≡ true) × (left_at self.now.time now ≡ 0)) }
+    /// Tries a read. A signal may interrupt it, and it may take longer than one call may wait. If
+    /// no time is left, it takes what has come, and times out only if nothing has.
+    fn try_read(&mut self, buffer: &mut [u8]) -> io::Result<usize>
+        ensures count { IfOk result (λ count. count ≤ length buffer.new) }
+        ensures limit { IfOk result (λ count. IsReadAllowed self.old.time self.new.socket) }
+        ensures waited { self.new.has_waited ≡ true }
+        ensures ok { IfOk result (λ count. self.new.time ≡ came_in count self.old.time) }
+        ensures err { OnErr result (self.new.time ≡ self.old.time) }
     {
-        if !self.has_waited {
-            return Ok(self.time.limit);
-        }
-        match self.time.left(now) {
-            Some(left) => Ok(left),
-            None => Err(Error::from(ErrorKind::TimedOut)),
-        }
+        self.has_waited = true;
+        let count = match self.time.turn() {
+            Some(limit) => self.socket.read(limit, buffer)?,
+            None => self.socket.read_now(buffer)?,
+        };
+        self.time.come(count);
+        Ok(count)
     }
+}
+
+/// Whether a call that failed so is made again as long as time is left: a signal interrupted it, or
+/// it took longer than one call may wait.
+fn is_passing(kind: ErrorKind) -> bool
+    ensures { result ≡ is_passing kind }
+{
+    matches!(kind, ErrorKind::Interrupted | ErrorKind::WouldBlock)
 }
 
 /// The fault of a wire that an error of the socket counts as.

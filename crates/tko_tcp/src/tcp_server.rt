@@ -3,6 +3,7 @@ ghost use Rattle.std.specs.Prelude.{◌≡◌, ◌≤◌, false, true, IfOk, IfS
 ghost use Rattle.std.specs.Prelude.{length, string_bytes};
 ghost use Rattle.std.specs.Duration.{as_nanos};
 ghost use Rattle.tko_tcp.specs.declared.exchange_time.ExchangeTime.{ExchangeTime};
+ghost use Rattle.tko_tcp.specs.ExchangeTimes.{IsTimeBegun};
 ghost use Rattle.tko_tcp.specs.TcpConnections.{IsConnectionOpened};
 ghost use Rattle.tko_tcp.specs.TcpWires.{address_of, is_open, time_limit_of};
 ghost use Rattle.tko_links.specs.Wires.{is_ok};
@@ -49,7 +50,7 @@ impl TcpServer {
         ensures limited { OnOk result (time_limit_of self.new ≡ Some (as_nanos limit)) }
         ensures address { address_of self.new ≡ address_of self.old }
         ensures opened { OnOk result (IfSome self.new.connection (λ connection.
-            (time : ExchangeTime) × (time.limit ≡ limit) × IsConnectionOpened time connection)) }
+            (time : ExchangeTime) × IsTimeBegun limit time × IsConnectionOpened time connection)) }
     {
         self.shut();
         let time = ExchangeTime::begin(rt, limit);

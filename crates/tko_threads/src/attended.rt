@@ -1,5 +1,6 @@
 //! What a client sends, read while its worker keeps an eye on the time.
 
+use crate::client_clock::ClientClock;
 use crate::watch::{Watch, WatchNext};
 use std::sync::atomic::{AtomicU64, Ordering};
 use tko_io::{Clock, Inlet, IoRuntime, Stop, raise};
@@ -8,7 +9,7 @@ use tko_io::{Clock, Inlet, IoRuntime, Stop, raise};
 #[derive(Drop)]
 pub(crate) struct Attendance<'r, M> {
     watch: Watch,
-    clock: M,
+    clock: ClientClock<M>,
     /// How many requests the worker has begun to answer.
     requests: &'r AtomicU64,
 }
@@ -27,10 +28,11 @@ pub(crate) struct Attended<'a, 'r, I, M> {
 impl<'r, M: Clock> Attendance<'r, M> {
     pub(crate) fn new<R: IoRuntime>(
         rt: &R,
-        mut clock: M,
+        clock: M,
         requests: &'r AtomicU64,
     ) -> Attendance<'r, M> {
-        let watch = Watch::new(clock.next(rt));
+        let mut clock = ClientClock::new(clock);
+        let watch = Watch::new(clock.moment(rt));
         Attendance {
             watch,
             clock,
@@ -40,27 +42,27 @@ impl<'r, M: Clock> Attendance<'r, M> {
 
     /// A client begins, which may complete no request for so long; 0 is no limit.
     pub(crate) fn begin<R: IoRuntime>(&mut self, rt: &R, limit: u32) {
-        let now = self.clock.next(rt);
+        let now = self.clock.moment(rt);
         let requests = self.requests();
         self.watch.begin(now, requests, limit);
     }
 
     /// A round was run while there was no client.
     pub(crate) fn end_round<R: IoRuntime>(&mut self, rt: &R) {
-        let now = self.clock.next(rt);
+        let now = self.clock.moment(rt);
         self.watch.end_round(now);
     }
 
     /// What comes next.
     fn look<R: IoRuntime>(&mut self, rt: &R) -> WatchNext {
-        let now = self.clock.next(rt);
+        let now = self.clock.moment(rt);
         let requests = self.requests();
         self.watch.look(now, requests)
     }
 
     /// The client's inlet is idle.
     fn rest<R: IoRuntime>(&mut self, rt: &R) {
-        let now = self.clock.next(rt);
+        let now = self.clock.moment(rt);
         self.watch.rest(now);
     }
 

@@ -12,6 +12,7 @@
 
 mod account;
 mod attended;
+mod client_clock;
 mod keepalive;
 mod leaving;
 mod lending;

@@ -1,5 +1,6 @@
 //! Replies that are written at the pace at which a client must take them.
 
+use crate::client_clock::ClientClock;
 use tko_io::{Clock, IoRuntime, Outlet, Stop, raise};
 use tko_pace::Pace;
 
@@ -8,18 +9,18 @@ use tko_pace::Pace;
 pub(crate) struct Paced<O, M> {
     inner: O,
     pace: Pace,
-    clock: M,
+    clock: ClientClock<M>,
     /// How often the client was too slow.
     failures: u64,
 }
 
-impl<O, M> Paced<O, M> {
+impl<O, M: Clock> Paced<O, M> {
     /// The client must take 64 KiB of what waits, or all of it, in each `limit` milliseconds.
     pub(crate) fn new(inner: O, clock: M, limit: u32) -> Paced<O, M> {
         Paced {
             inner,
             pace: Pace::new(limit),
-            clock,
+            clock: ClientClock::new(clock),
             failures: 0,
         }
     }
@@ -38,7 +39,7 @@ impl<O: Outlet, M: Clock> Outlet for Paced<O, M> {
         O.goes_on x.inner y.inner z.inner bytes more first second };
 
     fn write<R: IoRuntime>(&mut self, rt: &R, piece: &[u8]) -> Result<usize, Stop> {
-        let now = self.clock.next(rt);
+        let now = self.clock.moment(rt);
         if !self.pace.begin(now) {
             raise(rt, &mut self.failures);
             return Err(Stop::Fault);

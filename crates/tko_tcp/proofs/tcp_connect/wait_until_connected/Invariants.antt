@@ -1,0 +1,5 @@
+use Rattle.tko_tcp.specs.ExchangeTimes.{IsLater}
+use Rattle.tko_tcp.proofs.tcp_connect.wait_until_connected.Given as goal
+
+abbrev pub invariant-loop : goal.invariant-loop
+invariant-loop g l = IsLater l.initial.time l.time

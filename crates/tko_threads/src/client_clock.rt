@@ -1,0 +1,37 @@
+//! The moments of a client, without the pauses of the process.
+ghost use Rattle.std.specs.Prelude.{◌≡◌, ℕ};
+ghost use Rattle.tko_pace.specs.Running.{ran_to};
+ghost use Rattle.tko_threads.specs.Watching.{longest_wait};
+
+use crate::patience::IDLE;
+use tko_io::{Clock, IoRuntime};
+use tko_pace::RunningTime;
+
+/// For how long the process ran, as a worker's clock shows it that reads it after each wait for its
+/// client. A pause counts as long as one such wait; so does what else takes long, as the answer to
+/// a request, in which no time passes for a client.
+#[derive(Drop)]
+pub(crate) struct ClientClock<M> {
+    clock: M,
+    running: RunningTime,
+}
+
+impl<M: Clock> ClientClock<M> {
+    pub(crate) fn new(clock: M) -> ClientClock<M> {
+        ClientClock {
+            clock,
+            running: RunningTime::new(u64::from(4 * IDLE)),
+        }
+    }
+
+    /// For how many milliseconds the process ran by now.
+    pub(crate) fn moment<R: IoRuntime>(&mut self, rt: &R) -> u64
+        ensures read { (shown : ℕ) × M.reads self.old.clock shown self.new.clock
+            × (self.new.running ≡ ran_to shown longest_wait self.old.running) }
+        ensures moment { result ≡ self.new.running.ran }
+    {
+        let shown = self.clock.next(rt);
+        self.running.read(shown, u64::from(IDLE));
+        self.running.moment()
+    }
+}
