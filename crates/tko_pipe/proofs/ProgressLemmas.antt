@@ -9,9 +9,9 @@ use Rattle.tko_pipe.specs.declared.fates.ShutCause.{ShutCause}
 use Rattle.tko_pipe.specs.declared.fates.ShutCause.TheVariants.{EndOfInput, Fault, Silent, Late, Unreadable, Unasked, Memory, Lacking}
 use Rattle.tko_pipe.specs.declared.waiter.Waiter.{Waiter}
 use Rattle.tko_pipe.specs.declared.window.Window.{Window}
-use Rattle.tko_pipe.specs.Lives.{Got, HasNoProgress, IsEnd, IsPipeStep, IsTimeSpent, IsWithin, Left, PipeItem, Pushed}
+use Rattle.tko_pipe.specs.Lives.{Got, HasNoProgress, IsEnd, IsPipeStep, IsTimeSpent, IsRecent, Left, PipeItem, Pushed}
 use Rattle.tko_pipe.specs.Lives.{Took, WasConnected, WasShut, Wrote, bytes_read_in}
-use Rattle.tko_pipe.specs.Pipes.{IsCause, IsGot, PipeState, first_late, is_late, is_reached, opened_pipe}
+use Rattle.tko_pipe.specs.Pipes.{IsCause, IsGot, PipeState, first_late, is_late, is_due_by, opened_pipe}
 use Rattle.tko_pipe.specs.Windows.{begun_window, late_after, later_after, limit_after, progress, read_window}
 
 -- the time limit of a connection stays
@@ -96,35 +96,35 @@ IsFresh limit now (Some moment) = now < limit_after limit moment
 
 module _ (limit now : ℕ) where
   -- once the window began within the limit, no later one began before
-  fresh_stays : (old new : PipeState) (items : List PipeItem) → All (IsWithin limit now) items
+  fresh_stays : (old new : PipeState) (items : List PipeItem) → All (IsRecent limit now) items
       → IsFresh limit now old.window.since → Lead IsPipeStep old items new
       → IsFresh limit now new.window.since
   fresh_stays old new [] within was same =
       subst (λ (s : PipeState). IsFresh limit now s.window.since) (sym same) was
   fresh_stays old new (WasConnected ∷ items) within was (mid, step, more) =
-      fresh_stays mid new items (All-tail (IsWithin limit now) WasConnected items within)
+      fresh_stays mid new items (All-tail (IsRecent limit now) WasConnected items within)
       (subst (λ (s : PipeState). IsFresh limit now s.window.since) (sym step.state) was) more
   fresh_stays old new (Pushed it ∷ items) within was (mid, step, more) =
-      fresh_stays mid new items (All-tail (IsWithin limit now) (Pushed it) items within)
+      fresh_stays mid new items (All-tail (IsRecent limit now) (Pushed it) items within)
       (subst (λ (s : PipeState). IsFresh limit now s.window.since) (sym step.state) was) more
   fresh_stays old new (Wrote bytes ∷ items) within was (mid, step, more) =
-      fresh_stays mid new items (All-tail (IsWithin limit now) (Wrote bytes) items within)
+      fresh_stays mid new items (All-tail (IsRecent limit now) (Wrote bytes) items within)
       (subst (λ (s : PipeState). IsFresh limit now s.window.since) (sym step.state) was) more
   fresh_stays old new (Got bytes moment ∷ items) within was (mid, step, more) =
       let here : now < limit_after limit moment =
-      All-head (IsWithin limit now) (Got bytes moment) items within in
-      fresh_stays mid new items (All-tail (IsWithin limit now) (Got bytes moment) items within)
+      All-head (IsRecent limit now) (Got bytes moment) items within in
+      fresh_stays mid new items (All-tail (IsRecent limit now) (Got bytes moment) items within)
       (subst (λ (s : PipeState). IsFresh limit now s.window.since) (sym step.state)
       (read_cases moment (length bytes) old.window (λ (w : Window). IsFresh limit now w.since)
       (λ less. was) here)) more
   fresh_stays old new (Took it ∷ items) within was (mid, step, more) =
-      fresh_stays mid new items (All-tail (IsWithin limit now) (Took it) items within)
+      fresh_stays mid new items (All-tail (IsRecent limit now) (Took it) items within)
       (subst (λ (s : PipeState). IsFresh limit now s.window.since) (sym step.state) was) more
   fresh_stays old new (WasShut it ∷ items) within was (mid, step, more) =
-      fresh_stays mid new items (All-tail (IsWithin limit now) (WasShut it) items within)
+      fresh_stays mid new items (All-tail (IsRecent limit now) (WasShut it) items within)
       (subst (λ (s : PipeState). IsFresh limit now s.window.since) (sym step.state) was) more
   fresh_stays old new (Left it ∷ items) within was (mid, step, more) =
-      fresh_stays mid new items (All-tail (IsWithin limit now) (Left it) items within)
+      fresh_stays mid new items (All-tail (IsRecent limit now) (Left it) items within)
       (subst (λ (s : PipeState). IsFresh limit now s.window.since) (sym step.state) was) more
 
   -- bytes that came within the limit are counted, where the window is older than that
@@ -142,7 +142,7 @@ module _ (limit now : ℕ) where
       same
 
   -- and so are all that came within it
-  counts : (old new : PipeState) (items : List PipeItem) → All (IsWithin limit now) items
+  counts : (old new : PipeState) (items : List PipeItem) → All (IsRecent limit now) items
       → Lead IsPipeStep old items new → (IsFresh limit now new.window.since → ⊥)
       → new.window.came ≡ old.window.came + length (bytes_read_in items)
   counts old new [] within same stale =
@@ -150,18 +150,18 @@ module _ (limit now : ℕ) where
       ap (λ (s : PipeState). s.window.came) same in
       omega (arith, came)
   counts old new (WasConnected ∷ items) within (mid, step, more) stale =
-      counts mid new items (All-tail (IsWithin limit now) WasConnected items within) more stale
+      counts mid new items (All-tail (IsRecent limit now) WasConnected items within) more stale
       ∙ ap (λ (s : PipeState). s.window.came + length (bytes_read_in items)) step.state
   counts old new (Pushed it ∷ items) within (mid, step, more) stale =
-      counts mid new items (All-tail (IsWithin limit now) (Pushed it) items within) more stale
+      counts mid new items (All-tail (IsRecent limit now) (Pushed it) items within) more stale
       ∙ ap (λ (s : PipeState). s.window.came + length (bytes_read_in items)) step.state
   counts old new (Wrote bytes ∷ items) within (mid, step, more) stale =
-      counts mid new items (All-tail (IsWithin limit now) (Wrote bytes) items within) more stale
+      counts mid new items (All-tail (IsRecent limit now) (Wrote bytes) items within) more stale
       ∙ ap (λ (s : PipeState). s.window.came + length (bytes_read_in items)) step.state
   counts old new (Got bytes moment ∷ items) within (mid, step, more) stale =
       let here : now < limit_after limit moment =
-      All-head (IsWithin limit now) (Got bytes moment) items within in
-      let others = All-tail (IsWithin limit now) (Got bytes moment) items within in
+      All-head (IsRecent limit now) (Got bytes moment) items within in
+      let others = All-tail (IsRecent limit now) (Got bytes moment) items within in
       let rest = counts mid new items others more stale in
       let read = counts_read old mid bytes moment step
       (λ since. stale (fresh_stays mid new items others since more)) here in
@@ -169,13 +169,13 @@ module _ (limit now : ℕ) where
       ≡ length bytes + length (bytes_read_in items) = length-append bytes (bytes_read_in items) in
       omega (arith, rest, read, all)
   counts old new (Took it ∷ items) within (mid, step, more) stale =
-      counts mid new items (All-tail (IsWithin limit now) (Took it) items within) more stale
+      counts mid new items (All-tail (IsRecent limit now) (Took it) items within) more stale
       ∙ ap (λ (s : PipeState). s.window.came + length (bytes_read_in items)) step.state
   counts old new (WasShut it ∷ items) within (mid, step, more) stale =
-      counts mid new items (All-tail (IsWithin limit now) (WasShut it) items within) more stale
+      counts mid new items (All-tail (IsRecent limit now) (WasShut it) items within) more stale
       ∙ ap (λ (s : PipeState). s.window.came + length (bytes_read_in items)) step.state
   counts old new (Left it ∷ items) within (mid, step, more) stale =
-      counts mid new items (All-tail (IsWithin limit now) (Left it) items within) more stale
+      counts mid new items (All-tail (IsRecent limit now) (Left it) items within) more stale
       ∙ ap (λ (s : PipeState). s.window.came + length (bytes_read_in items)) step.state
 
 -- the window of a response that is late is as old as the limit
@@ -188,7 +188,7 @@ stale_since (Some moment) limit now due reached fresh =
     omega (arith, reached, fresh, most)
 
 stale_late : (waiters : List Waiter) (window : Window) (limit now : ℕ)
-    → is_reached (first_late waiters window limit) now ≡ true
+    → is_due_by (first_late waiters window limit) now ≡ true
     → IsFresh limit now window.since → ⊥
 stale_late [] window limit now late fresh = absurd (let f : false ≡ true = late in cc)
 stale_late (first ∷ others) window limit now late fresh =
@@ -204,7 +204,7 @@ no_progress limit now before last leads late earlier bytes moment recent is with
     let same : last.limit ≡ limit = limit_stays (opened_pipe limit) last before leads in
     let stale : IsFresh limit now last.window.since → ⊥ =
     stale_late last.waiters last.window limit now
-    (subst (λ n. is_reached (first_late last.waiters last.window n) now ≡ true) same late) in
+    (subst (λ n. is_due_by (first_late last.waiters last.window n) now ≡ true) same late) in
     let few = few_stays (opened_pipe limit) last before (omega arith) leads in
     let all = counts limit now parts.mid last (Got bytes moment ∷ recent) within parts.after stale
     in

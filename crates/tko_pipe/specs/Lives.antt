@@ -103,15 +103,15 @@ leaving_in Connected waiters = []
 leaving_in (Shut left) waiters = leaving left waiters
 
 -- what was done, as to this moment: bytes that were read came within the time limit before it
-abbrev pub IsWithin : ℕ → ℕ → PipeItem → Type 0
-IsWithin limit now (Got bytes moment) = now < limit_after limit moment
-IsWithin limit now _ = Unit {0}
+abbrev pub IsRecent : ℕ → ℕ → PipeItem → Type 0
+IsRecent limit now (Got bytes moment) = now < limit_after limit moment
+IsRecent limit now _ = Unit {0}
 
 -- less than 64 KiB came by all reads since one within the time limit before this moment
 abbrev pub HasNoProgress : ℕ → ℕ → List PipeItem → Type 0
 HasNoProgress limit now items = (earlier : List PipeItem) (bytes : List ℕ) (moment : ℕ)
     (recent : List PipeItem) → items ≡ earlier ++ Got bytes moment ∷ recent
-    → All (IsWithin limit now) (Got bytes moment ∷ recent)
+    → All (IsRecent limit now) (Got bytes moment ∷ recent)
     → length bytes + length (bytes_read_in recent) < progress
 
 -- a connection is shut for the time that passed only where it made no progress

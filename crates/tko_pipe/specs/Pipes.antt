@@ -76,13 +76,13 @@ abbrev pub late_at : PipeState → Option ℕ
 late_at state = first_late state.waiters state.window state.limit
 
 -- that moment is there
-abbrev pub is_reached : Option ℕ → ℕ → Bool
-is_reached None now = false
-is_reached (Some moment) now = nat_le moment now
+abbrev pub is_due_by : Option ℕ → ℕ → Bool
+is_due_by None now = false
+is_due_by (Some moment) now = nat_le moment now
 
 -- the first response is late at this moment
 abbrev pub is_late : PipeState → ℕ → Bool
-is_late state now = is_reached (late_at state) now
+is_late state now = is_due_by (late_at state) now
 
 -- no byte came for the whole time limit, up to this moment
 abbrev pub is_silent : Option ℕ → ℕ → ℕ → Bool

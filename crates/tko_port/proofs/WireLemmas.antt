@@ -9,7 +9,7 @@ use Rattle.std.proofs.lemmas.Option.{slice_get_within}
 use Rattle.tko_pipe.specs.declared.fates.ShutCause.{ShutCause}
 use Rattle.tko_pipe.specs.declared.link.Link.{Link}
 use Rattle.tko_pipe.specs.declared.link.Link.TheVariants.{Connected, Connecting}
-use Rattle.tko_pipe.specs.Pipes.{IsCause, IsWritten, PipeState, is_reached, late_at}
+use Rattle.tko_pipe.specs.Pipes.{IsCause, IsWritten, PipeState, is_due_by, late_at}
 use Rattle.tko_roster.proofs.SlotLemmas.{get_set_other, get_set_same}
 use Rattle.tko_mux.specs.Lines.{IsOnLive, LineState, line_by, link_on, unwritten_on}
 use Rattle.tko_mux.specs.Muxes.{HasNoneLeaving, IsOnLine}
@@ -115,7 +115,7 @@ none_spent true list spent is same = sym same ∙ no_text list (sym is)
 none_spent false list spent is same = tt
 
 late_pipe : (pipe : Option PipeState) (now : ℕ)
-    → is_reached (option_and_then late_at pipe) now ≡ true → IsSome pipe
+    → is_due_by (option_and_then late_at pipe) now ≡ true → IsSome pipe
 late_pipe None now late = absurd (let both : false ≡ true = late in let f : ⊥ = cc both in f)
 late_pipe (Some it) now late = refl
 

@@ -7,7 +7,7 @@ use Rattle.tko_pipe.specs.declared.link.Link.{Link}
 use Rattle.tko_pipe.specs.declared.link.Link.TheVariants.{Connected, Connecting}
 use Rattle.tko_pipe.specs.declared.waiter.Waiter.{Waiter}
 use Rattle.tko_pipe.specs.Ends.{ExpireEnds, GotEnds}
-use Rattle.tko_pipe.specs.Pipes.{IsConnected, IsShut, IsWritten, is_reached, late_at, shutting}
+use Rattle.tko_pipe.specs.Pipes.{IsConnected, IsShut, IsWritten, is_due_by, late_at, shutting}
 use Rattle.tko_mux.specs.Lines.{IsOnLive, IsOnPipe, LineState, first_on, link_on, unwritten_on}
 use Rattle.tko_mux.specs.Linking.{AreLinked}
 use Rattle.tko_mux.specs.Muxes.{HasNoneLeaving, IsOnLine, MuxState, line_at}
@@ -64,7 +64,7 @@ due_at lines server = due_of (slice_get lines server)
 
 -- the first response of a server is late at this moment
 abbrev pub is_first_late : Option LineState → ℕ → Bool
-is_first_late line now = is_reached (due_of line) now
+is_first_late line now = is_due_by (due_of line) now
 
 -- there is a port, and nothing can be read from it
 abbrev pub IsNotReadable : Option PortState → Type 0
