@@ -59,7 +59,17 @@ def circumstances(program):
     versions = [version(name) for name in VERSIONS if targets.is_here(name)]
     return [f"{now:%d %B %Y, %H:%M} UTC, on {os.cpu_count()} processors ({processor()}), of whose time other work took "
             f"{busy:.0f} % just before.",
-            f"tkoproxy of SHA-256 {digest(program)}.., {', '.join(versions)}."]
+            f"tkoproxy of SHA-256 {digest(program)}.., {', '.join(versions)}; TCP's congestion control is "
+            f"{congestion_control()}."]
+
+
+def congestion_control():
+    """Which one TCP has here. It says how loopback behaves too: bbr paces what it sends."""
+    try:
+        with open("/proc/sys/net/ipv4/tcp_congestion_control", encoding="ascii") as file:
+            return file.read().strip()
+    except OSError:
+        return "unknown"
 
 
 class Stolen:
@@ -71,6 +81,25 @@ class Stolen:
     def percent(self):
         used = [after - before for after, before in zip(tick_counts(), self.before)]
         return 100 * used[7] / max(1, sum(used))
+
+
+class Disturbance:
+    """What else went on since this began, in processors: how much the host of a virtual machine took, and how much all
+    processes had together but those that are measured, whose processor time `own` gives."""
+
+    def __init__(self, own):
+        self.own = own
+        self.began = time.monotonic()
+        self.before = tick_counts()
+        self.own_before = own()
+
+    def processors(self):
+        """Those that the host took, and those of other work."""
+        seconds = max(1e-6, time.monotonic() - self.began)
+        used = [(after - before) / targets.TICKS for after, before in zip(tick_counts(), self.before)]
+        user, nice, system, _, _, irq, softirq, stolen = used
+        working = user + nice + system + irq + softirq - (self.own() - self.own_before)
+        return stolen / seconds, max(0.0, working / seconds)
 
 
 class Pauses:

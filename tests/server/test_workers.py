@@ -123,7 +123,7 @@ class Ends(ServerTest):
         status, output = proxy.end()
         sent = ill.count(b"get")
         self.assertEqual(status, 0)
-        self.assertEqual(self.totals(output), [300, 600 + sent, 600 - sent, 600, 0, ill.count(b"version")])
+        self.assert_totals(output, [300, 600 + sent, 600 - sent, 600, 0], ill)
 
     def test_totals_of_probes_without_a_client(self):
         """The worker that marked a server probes it while it has no client, and that is counted."""
@@ -138,7 +138,15 @@ class Ends(ServerTest):
         with proxy.client():
             pass
         status, output = proxy.end()
-        self.assertEqual((status, self.totals(output)), (0, [2, 1, 0, 0, 1, ill.count(b"version")]))
+        self.assertEqual(status, 0)
+        self.assert_totals(output, [2, 1, 0, 0, 1], ill)
+
+    def assert_totals(self, output, others, probed):
+        """The last one is how often this server was probed. A probe that is under way as the proxy ends is not in it."""
+        *totals, probes = self.totals(output)
+        self.assertEqual(totals, others)
+        seen = probed.count(b"version")
+        self.assertIn(probes, (seen - 1, seen))
 
     def test_it_does_not_end_while_a_client_is_served(self):
         proxy = self.proxy(configuration(only=[self.memcached()]), connections=1)
@@ -201,11 +209,14 @@ class Faults(ServerTest):
         for words, status, line in (
                 (["--listen", address, "--config", "{}"], 1,
                  b"config: there is no object of pools\nfault: config no-pools\n"),
-                (["--listen", address, "--config", good, "--threads", "1025"], 1, b"fault: settings threads\n"),
-                (["--listen", address, "--config", good, "--threads", "0"], 1, b"fault: settings threads\n"),
-                (["--listen", address, "--config", good, "--first-delay", "0"], 1, b"fault: delays\n"),
+                (["--listen", address, "--config", good, "--threads", "1025"], 1,
+                 b"settings: --threads 1025 is not in the range 1 to 1024\nfault: settings threads\n"),
+                (["--listen", address, "--config", good, "--threads", "0"], 1,
+                 b"settings: --threads 0 is not in the range 1 to 1024\nfault: settings threads\n"),
+                (["--listen", address, "--config", good, "--first-delay", "0"], 1,
+                 b"delays: --first-delay 0 is not in the range 1 to 60000, the --greatest-delay\nfault: delays\n"),
                 (["--listen", address, "--config", good, "--first-delay", "2", "--greatest-delay", "1"], 1,
-                 b"fault: delays\n"),
+                 b"delays: --first-delay 2 is not in the range 1 to 1, the --greatest-delay\nfault: delays\n"),
                 (["--listen", "nowhere", "--config", good], 1,
                  b"listen: nowhere: no address <host>:<port>\nfault: listen\n"),
                 (["--listen", HOST + ":65536", "--config", good], 1,

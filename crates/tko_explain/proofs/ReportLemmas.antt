@@ -4,15 +4,15 @@ use Rattle.serde_json.specs.Data.{Data}
 use Rattle.serde_json.specs.Read.{read}
 use Rattle.tko_pools.specs.Configs.{Configuration, IsMeaning, IsRoot, Means}
 use Rattle.tko_pools.specs.Json.{pools_in}
-use Rattle.tko_explain.specs.Repeats.{IsKeyText}
-use Rattle.tko_explain.specs.Reports.{IsReport, report_text, values_note}
+use Rattle.tko_explain.specs.Reports.{AreWarnings, AreWarningsOf, IsReport, report_text, values_note}
 
 -- a text has one root
 pub is_report : (json : List ℕ) (keys : List (List ℕ)) (printed : List ℕ) (root pools : Data) (config : Configuration)
-    (key_text : List ℕ) → Means json config → read json ≡ Some root → pools_in root ≡ Some pools
-    → IsKeyText json key_text → printed ≡ report_text root pools config keys ++ key_text ++ values_note
+    (warnings : List ℕ) → Means json config → read json ≡ Some root → pools_in root ≡ Some pools
+    → AreWarningsOf json root config warnings
+    → printed ≡ report_text root pools config keys ++ warnings ++ values_note
     → IsReport json keys printed
-is_report json keys printed root pools config key_text means reads has key prints =
+is_report json keys printed root pools config warnings means reads has warned prints =
     let both : Some means.root ≡ Some root = sym means.is_root.json ∙ reads in
     let same : means.root ≡ root = cc in
     record {
@@ -22,7 +22,20 @@ is_report json keys printed root pools config key_text means reads has key print
       is_root = subst (λ it. IsRoot json it) same means.is_root;
       meaning = subst (λ it. IsMeaning it config) same means.meaning;
       has_pools = has;
-      key_text = key_text;
-      key = key;
+      warnings = warnings;
+      warned = warned;
       prints = prints;
+    }
+
+pub are_warnings : (json text : List ℕ) (root : Data) (config : Configuration) → Means json config
+    → read json ≡ Some root → AreWarningsOf json root config text → AreWarnings json text
+are_warnings json text root config means reads warned =
+    let both : Some means.root ≡ Some root = sym means.is_root.json ∙ reads in
+    let same : means.root ≡ root = cc in
+    record {
+      root = root;
+      config = config;
+      is_root = subst (λ it. IsRoot json it) same means.is_root;
+      meaning = subst (λ it. IsMeaning it config) same means.meaning;
+      are = warned;
     }

@@ -1,3 +1,4 @@
+pub mod OddAddresses
 pub mod Parts
 pub mod Printing
 pub mod Reasons

@@ -1,6 +1,6 @@
 -- The line that says why a text is no configuration.
-use Rattle.std.specs.Prelude.{◌≡◌, ℕ, ◌==◌, Bool, ◌&&◌, not, if◌then◌else◌, List, [], ◌∷◌, ◌++◌, Option, Some, None, codes, decimal, is_some, length, option_map, string_bytes, unwrap_or, false}
-use Rattle.std.specs.List.{list_all, position_from}
+use Rattle.std.specs.Prelude.{◌≡◌, ℕ, ◌==◌, Bool, ◌&&◌, not, if◌then◌else◌, List, [], ◌∷◌, ◌++◌, Option, Some, None, codes, decimal, is_some, length, nat_eq, option_map, string_bytes, unwrap_or, false}
+use Rattle.std.specs.List.{list_all, position_from, starts_with}
 use Rattle.std.specs.Str.{IsUtf8, bytes_eq}
 use Rattle.json.specs.Print.{quoted}
 use Rattle.serde_json.specs.Data.{Data, null, boolean, number, string, array, object}
@@ -91,11 +91,19 @@ flaw_text root fault.Memory = codes "memory ran out"
 abbrev pub reason_line : List ℕ → List ℕ
 reason_line words = codes "config: " ++ words ++ codes "\n"
 
--- what the reader of JSON says of a text that is none, with its line and column
+-- whether a text begins with a byte order mark, U+FEFF in UTF-8
+abbrev pub has_mark : List ℕ → Bool
+has_mark text = starts_with nat_eq text (239 ∷ 187 ∷ 191 ∷ [])
+
+abbrev pub byte_order_text : List ℕ
+byte_order_text = codes "it begins with a byte order mark, which JSON does not allow"
+
+-- what is said of a text that is no JSON: that it begins with a byte order mark, or what the reader
+-- of JSON says of it, with its line and column
 pub record IsNoJson (json line : List ℕ) : Type 0 where
   pub none : IsUtf8 json → read json ≡ None
   pub detail : List ℕ
-  pub is : line ≡ reason_line detail
+  pub is : line ≡ reason_line (if has_mark json then byte_order_text else detail)
 
 -- what is wrong with the value of a text
 pub record IsFlawOf (json : List ℕ) (cause : ConfigFault) (line : List ℕ) : Type 0 where

@@ -4,6 +4,7 @@ use Rattle.serde_json.specs.Data.{Data}
 use Rattle.tko_pools.specs.Configs.{Configuration, IsMeaning, IsRoot, child_of, targets_of}
 use Rattle.tko_pools.specs.Json.{pools_in}
 use Rattle.tko_pools.specs.SoftLimits.{soft_limit_named}
+use Rattle.tko_explain.specs.OddAddresses.{AreAddressNotes}
 use Rattle.tko_explain.specs.Parts.{pool_names_of}
 use Rattle.tko_explain.specs.Printing.{named_line}
 use Rattle.tko_explain.specs.Repeats.{IsKeyText, repeats_text}
@@ -50,16 +51,34 @@ targets_text config keys = expiry_text config.failover_exptime ++ routed_keys_te
 -- what is printed of the configuration of this object over these pools
 abbrev pub report_text : Data → Data → Configuration → List (List ℕ) → List ℕ
 report_text root pools config keys =
-    config_text root pools config ++ targets_text config keys ++ warnings_text root
-    ++ repeats_text root
+    config_text root pools config ++ targets_text config keys
+
+-- what is warned of in a text of this object, which means this configuration: what has no effect,
+-- what is named twice, the addresses that may be meant otherwise, and whether an object of the text
+-- has a key twice
+pub record AreWarningsOf (json : List ℕ) (root : Data) (config : Configuration) (text : List ℕ)
+    : Type 0 where
+  pub odd : List ℕ
+  pub odd_addresses : AreAddressNotes config.addresses odd
+  pub key_text : List ℕ
+  pub key : IsKeyText json key_text
+  pub is : text ≡ warnings_text root ++ repeats_text root ++ odd ++ key_text
+
+-- what is warned of in a text that means a configuration
+pub record AreWarnings (json text : List ℕ) : Type 0 where
+  pub root : Data
+  pub config : Configuration
+  pub is_root : IsRoot json root
+  pub meaning : IsMeaning root config
+  pub are : AreWarningsOf json root config text
 
 -- what no configuration tells of its servers
 abbrev pub values_note : List ℕ
 values_note = codes "note: no server may hold a value above 1 MiB (memcached -I above 1m)"
     ++ codes ": it would be marked\n"
 
--- a text means a configuration, and this is what is printed of it and of these keys, with whether
--- an object of the text has a key twice, and then the note
+-- a text means a configuration, and this is what is printed of it and of these keys, with its
+-- warnings, and then the note
 pub record IsReport (json : List ℕ) (keys : List (List ℕ)) (printed : List ℕ) : Type 0 where
   pub root : Data
   pub pools : Data
@@ -67,6 +86,6 @@ pub record IsReport (json : List ℕ) (keys : List (List ℕ)) (printed : List �
   pub is_root : IsRoot json root
   pub meaning : IsMeaning root config
   pub has_pools : pools_in root ≡ Some pools
-  pub key_text : List ℕ
-  pub key : IsKeyText json key_text
-  pub prints : printed ≡ report_text root pools config keys ++ key_text ++ values_note
+  pub warnings : List ℕ
+  pub warned : AreWarningsOf json root config warnings
+  pub prints : printed ≡ report_text root pools config keys ++ warnings ++ values_note

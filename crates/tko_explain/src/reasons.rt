@@ -13,6 +13,11 @@ use tko_bytes::NoMemory;
 use tko_model::append_number;
 use tko_pools::{ConfigFault, child_name, is_address, text_of};
 
+/// How a text begins that some editors save as "UTF-8 with BOM".
+const BYTE_ORDER_MARK: [u8; 3] = [0xef, 0xbb, 0xbf];
+
+const HAS_MARK: &[u8] = b"it begins with a byte order mark, which JSON does not allow";
+
 /// The line that says why a text is no configuration, where this is its fault: with the pool, the
 /// place in its list and the text of an address, or with what `serde_json` says of a text that is
 /// no JSON.
@@ -25,6 +30,7 @@ pub fn reason(alloc: Global, json: &[u8], fault: &ConfigFault) -> Result<Vec<u8>
             reason_line(alloc, &words)
         }
         Err(error) if error.is_memory() => Err(NoMemory),
+        Err(_) if json.starts_with(&BYTE_ORDER_MARK) => reason_line(alloc, HAS_MARK),
         Err(error) => {
             let words = format!(in alloc; "{error}")?;
             reason_line(alloc, words.as_bytes())

@@ -3,12 +3,13 @@ ghost use Rattle.std.specs.Prelude.{◌≡◌, ◌++◌, IfOk, IfErr, OnOk, map,
 ghost use Rattle.std.specs.List.{position};
 ghost use Rattle.std.specs.Str.{bytes_eq};
 ghost use Rattle.serde_json.specs.View.{items_view, view};
-ghost use Rattle.tko_explain.specs.Reports.{IsReport, addresses_text, children_text, config_text, expiry_text, limit_text, report_text, routed_keys_text, targets_text, values_note};
-ghost use Rattle.tko_pools.specs.Configs.{Refuses, child_of};
+ghost use Rattle.tko_explain.specs.Reports.{AreWarnings, AreWarningsOf, IsReport, addresses_text, children_text, config_text, expiry_text, limit_text, report_text, routed_keys_text, targets_text, values_note};
+ghost use Rattle.tko_pools.specs.Configs.{Means, Refuses, child_of};
 ghost use Rattle.tko_pools.specs.Json.{texts_of};
 ghost use Rattle.tko_pools.specs.Numbering.{number_in};
 ghost use Rattle.tko_pools.specs.SoftLimits.{soft_limit_named};
 
+use crate::odd_addresses::odd_addresses;
 use crate::parts::{list_in, names_in};
 use crate::printing::append_named;
 use crate::repeats::{append_repeats, key_text};
@@ -24,8 +25,7 @@ const VALUES_NOTE: &[u8] =
 
 /// The servers by their numbers, the pools of the route with the numbers of their servers and with
 /// their soft limits, the greatest expiry after the first target, the targets of each of the keys,
-/// a warning for whatever has no effect or is named twice, and what no configuration tells of its
-/// servers, a line each.
+/// the warnings, and what no configuration tells of its servers, a line each.
 pub fn report(alloc: Global, json: &str, keys: &[String]) -> Result<Vec<u8>, ConfigFault>
     ensures ok { IfOk result (λ text. IsReport json.now (map string_bytes keys.now) text.items) }
     ensures err { IfErr result (λ fault. Refuses json.now fault) }
@@ -37,13 +37,45 @@ pub fn report(alloc: Global, json: &str, keys: &[String]) -> Result<Vec<u8>, Con
     let Some(pools) = pools_in(&root) else {
         return Err(ConfigFault::Memory);
     };
-    let Ok(key_text) = key_text(alloc, json) else {
+    let Ok(warnings) = warnings_over(alloc, json, &root, &config) else {
         return Err(ConfigFault::Memory);
     };
-    match report_of(alloc, &root, pools, &config, keys, key_text) {
+    match report_of(alloc, &root, pools, &config, keys, &warnings) {
         Ok(text) => Ok(text),
         Err(NoMemory) => Err(ConfigFault::Memory),
     }
+}
+
+/// What is warned of in this text, which means the configuration: a line for each key that is not
+/// read, for whatever is named twice, and for each address whose host and port may not be the ones
+/// that were meant.
+pub fn warning_lines(alloc: Global, json: &str, config: &Config) -> Result<Vec<u8>, NoMemory>
+    requires { Means json.now config.now }
+    ensures { IfOk result (λ text. AreWarnings json.now text.items) }
+{
+    let Ok(root) = Value::from_str(alloc, json) else {
+        return Err(NoMemory);
+    };
+    warnings_over(alloc, json, &root, config)
+}
+
+/// The same over the value of the text.
+fn warnings_over(
+    alloc: Global,
+    json: &str,
+    root: &Value,
+    config: &Config,
+) -> Result<Vec<u8>, NoMemory>
+    ensures { IfOk result (λ text.
+        AreWarningsOf json.now (view root.now) config.now text.items) }
+{
+    let mut out = Vec::new(alloc);
+    append_warnings(alloc, &mut out, root)?;
+    append_repeats(alloc, &mut out, root)?;
+    let odd = odd_addresses(alloc, config.addresses())?;
+    out.extend_from_slice(&odd)?;
+    out.extend_from_slice(key_text(alloc, json)?.as_bytes())?;
+    Ok(out)
 }
 
 fn report_of(
@@ -52,18 +84,16 @@ fn report_of(
     pools: &Value,
     config: &Config,
     keys: &[String],
-    key_text: &str,
+    warnings: &[u8],
 ) -> Result<Vec<u8>, NoMemory>
     ensures { IfOk result (λ text. text.items
         ≡ report_text (view root.now) (view pools.now) config.now (map string_bytes keys.now)
-        ++ key_text.now ++ values_note) }
+        ++ warnings.now ++ values_note) }
 {
     let mut out = Vec::new(alloc);
     append_config(alloc, &mut out, root, pools, config)?;
     append_targets(alloc, &mut out, config, keys)?;
-    append_warnings(alloc, &mut out, root)?;
-    append_repeats(alloc, &mut out, root)?;
-    out.extend_from_slice(key_text.as_bytes())?;
+    out.extend_from_slice(warnings)?;
     out.extend_from_slice(VALUES_NOTE)?;
     Ok(out)
 }
@@ -183,7 +213,6 @@ fn push_numbers(
 }
 
 /// The number of an address, and how many addresses there are where it has none.
-
 fn number_of(addresses: &[String], text: &str) -> usize
     ensures { result ≡ number_in (map string_bytes addresses.now) text.now }
 {

@@ -1,8 +1,10 @@
 -- The options of the commands, as clap read them.
 use Rattle.std.specs.Prelude.{◌≡◌, ◌<◌, ◌^◌, ℕ, Bool, true, false, ◌||◌, List, [], Option, Some, None, bytes_eq, codes, map, option_map, string_bytes, unwrap_or}
+use Rattle.std.specs.List.{list_all}
 use Rattle.std.specs.Str.Parse.{IsNumeral, digits_value, without_leading_plus}
 use Rattle.clap.specs.Words.{first_value, matched_of, one_text, raw_values}
 use Rattle.clap.specs.declared.parser.matches.Found.{Found}
+use Rattle.tko_text.specs.Keys.{is_key}
 use Rattle.tko_options.specs.Modes.{default_workers, mode_at}
 use Rattle.tko_options.specs.declared.check_options.CheckOptions.{CheckOptions}
 use Rattle.tko_options.specs.declared.demo_options.DemoOptions.{DemoOptions}
@@ -55,12 +57,17 @@ pub record AreDryFound (found : Found) (options : DryOptions) : Type 0 where
   pub outcomes : IsTextAt found (codes "outcomes") (string_bytes options.outcomes)
   pub trail : IsSwitchAt found (codes "trail") options.trail
 
--- each option of `check` is what clap read for its name
+-- whether each key that was given is one of the protocol
+abbrev pub has_keys : Found → Bool
+has_keys found = list_all is_key (texts_at found (codes "key"))
+
+-- each option of `check` is what clap read for its name, and each key is one
 pub record AreCheckFound (found : Found) (options : CheckOptions) : Type 0 where
   pub config : IsTextAt found (codes "config") (string_bytes options.config)
   pub config_file :
       option_map string_bytes options.config_file ≡ first_value found (codes "config-file")
   pub keys : map string_bytes options.keys.items ≡ texts_at found (codes "key")
+  pub are_keys : has_keys found ≡ true
 
 -- the option of `demo` is what clap read for its name
 abbrev pub AreDemoFound : Found → DemoOptions → Type 0

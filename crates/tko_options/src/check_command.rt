@@ -14,9 +14,9 @@ Example:
   tkoproxy check --config-file pools.json --key a --key b
 
 Exit status:
-  0  the configuration is good, and is printed, also with warnings
+  0  the configuration is valid, and is printed, with its warnings
   1  it is not: lines on standard error say why, the last one `fault: ..`
-  2  the command line was refused";
+  2  the command line is invalid";
 
 pub(crate) fn check<'a>(alloc: Global) -> Result<Command<'a>, AllocError>
     ensures { IfOk result (ReadsAs check_command) }
@@ -35,6 +35,6 @@ fn key<'a>(alloc: Global) -> Arg<'a>
     ensures local { result.global ≡ false }
 {
     text(alloc, "key", "KEY").action(ArgAction::Append).help(
-        "Also prints the servers that this key tries; may be given several times",
+        "Also prints the servers that this key tries, in order; may be given several times",
     )
 }

@@ -24,7 +24,7 @@ const PROGRAM_HELP: &str = "\
 Exit status:
   0  done, also for --help and --version
   1  a fault, with a line `fault: ..` on standard error
-  2  the command line was refused
+  2  the command line is invalid
 
 `tkoproxy COMMAND --help` prints the options of a command.";
 
@@ -38,7 +38,7 @@ Example:
 Exit status:
   0  the run was printed
   1  a fault, with a line `fault: ..` on standard error
-  2  the command line was refused";
+  2  the command line is invalid";
 
 /// The program, which wants one of its commands.
 pub(crate) fn program<'a>(alloc: Global) -> Result<Command<'a>, AllocError>
@@ -83,9 +83,9 @@ pub(crate) fn with_tracker<'a>(
 ) -> Result<Command<'a>, AllocError>
     ensures { (app : App) → ReadsAs app command.entry → IfOk result (ReadsAs (with_tracker app)) }
 {
-    let failures = "How many soft failures in a row mark a server, 1 to 4096";
-    let limit = "How many servers of a pool without a soft_limit may have a soft mark, 0 to 256";
-    let tries = "How many tries a call may lose to other threads, 1 to 1000";
+    let failures = "Number of consecutive soft failures that mark a server, 1 to 4096";
+    let limit = "Maximum number of soft-marked servers of a pool without a soft_limit, 0 to 256";
+    let tries = "Maximum number of retries of a health update under contention, 1 to 1000";
     command
         .arg(number(alloc, "failures", DEFAULT_FAILURES, failures))?
         .arg(number(alloc, "limit", DEFAULT_LIMIT, limit))?
@@ -99,7 +99,7 @@ pub(crate) fn config_file<'a>(alloc: Global) -> Result<Arg<'a>, AllocError>
     Arg::new(alloc, "config-file")
         .long("config-file")
         .value_name("PATH")
-        .help("The file of the configuration, in place of --config")
+        .help("File with the configuration, instead of --config")
         .conflicts_with("config")
 }
 

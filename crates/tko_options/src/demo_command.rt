@@ -9,22 +9,22 @@ use clap::{Arg, Command};
 use std::alloc::{AllocError, Global};
 
 const DEMO_HELP: &str = "\
-It needs no memcached, no configuration and no port of yours: its two servers keep values in
-memory, and all of it listens on free ports of 127.0.0.1.
+It needs no memcached and no configuration: it starts two servers that keep values in memory, and
+uses free ports of 127.0.0.1.
 
 Example:
   tkoproxy demo
 
 Exit status:
-  0  each reply was the one that the story needs
-  1  one was not, or another fault, with a line `fault: ..` on standard error
-  2  the command line was refused";
+  0  each reply was the expected one
+  1  a reply was not, or another fault, with a line `fault: ..` on standard error
+  2  the command line is invalid";
 
 pub(crate) fn demo<'a>(alloc: Global) -> Result<Command<'a>, AllocError>
     ensures { IfOk result (ReadsAs demo_command) }
 {
     Command::new(alloc, "demo")
-        .about("Shows the proxy at work: a server goes away and comes back, and a client asks")
+        .about("Shows the proxy at work: a client sends requests while a server fails and returns")
         .after_help(DEMO_HELP)
         .arg(stay(alloc))
 }
@@ -35,7 +35,7 @@ fn stay<'a>(alloc: Global) -> Arg<'a>
     ensures local { result.global ≡ false }
 {
     switch(alloc, "stay").help(
-        "Goes on until standard input ends, for requests of your own, with the event log on \
-             standard error",
+        "Keeps running until standard input ends, for requests of your own, with the event log \
+             on standard error",
     )
 }

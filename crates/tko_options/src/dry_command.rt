@@ -16,7 +16,7 @@ Example:
 Exit status:
   0  the input was answered to its end
   1  a fault, with a line `fault: ..` on standard error
-  2  the command line was refused";
+  2  the command line is invalid";
 
 pub(crate) fn dry<'a>(alloc: Global) -> Result<Command<'a>, AllocError>
     ensures { IfOk result (ReadsAs dry_command) }
@@ -43,7 +43,7 @@ fn servers<'a>(alloc: Global) -> Arg<'a>
     ensures rule { rule_of result ≡ servers_option }
     ensures local { result.global ≡ false }
 {
-    let help = "How many servers there are without a configuration, 1 to 256";
+    let help = "Number of servers if there is no configuration, 1 to 256";
     number(alloc, "servers", DEFAULT_SERVERS, help)
 }
 
@@ -52,7 +52,7 @@ fn config<'a>(alloc: Global) -> Arg<'a>
     ensures local { result.global ≡ false }
 {
     text(alloc, "config", "JSON").help(
-        "The pools and the route; without it every key tries all servers in order",
+        "Pools and route, as JSON; without it every key tries all servers in order",
     )
 }
 
@@ -61,8 +61,8 @@ fn outcomes<'a>(alloc: Global) -> Arg<'a>
     ensures local { result.global ≡ false }
 {
     text(alloc, "outcomes", "LIST").default_value("").help(
-        "What comes of each send, separated by commas: refused, timeout, broken, miss, \
-             hit:<text>, line:<text>, bytes:<hex>; then refused",
+        "Outcome of each send, separated by commas: refused, timeout, broken, miss, hit:<text>, \
+             line:<text>, bytes:<hex>; each later send is refused",
     )
 }
 
@@ -70,5 +70,5 @@ fn trail<'a>(alloc: Global) -> Arg<'a>
     ensures rule { rule_of result ≡ trail_option }
     ensures local { result.global ≡ false }
 {
-    switch(alloc, "trail").help("Prints one line an attempt after the replies")
+    switch(alloc, "trail").help("Prints a line for each attempt after the replies")
 }

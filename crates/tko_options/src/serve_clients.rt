@@ -47,8 +47,8 @@ pub(crate) fn with_patience<'a>(
     ensures { (app : App) → ReadsAs app command.entry → IfOk result (ReadsAs (with_patience app)) }
 {
     let write =
-        "In how long a client must take 64 KiB of its replies or all, in milliseconds, from 1";
-    let idle = "How long a client may complete no request, in milliseconds; 0 for no limit";
+        "Time in which a client must read 64 KiB of its replies or all, in milliseconds, from 1";
+    let idle = "Time in which a client must complete a request, in milliseconds; 0 for no limit";
     command
         .arg(limit(alloc, "write-timeout", DEFAULT_WRITE_TIMEOUT, write))?
         .arg(delay(alloc, "idle-timeout", DEFAULT_IDLE_TIMEOUT, idle))
@@ -60,7 +60,7 @@ fn mode<'a>(alloc: Global) -> Arg<'a>
     ensures local { result.global ≡ false }
 {
     text(alloc, "mode", "MODE").default_value(DEFAULT_MODE).help(
-        "Whom a worker serves: one client at a time in threads, many at once in events",
+        "What a worker serves: one client at a time (threads), or many at once (events)",
     )
 }
 
@@ -71,7 +71,7 @@ fn threads<'a>(alloc: Global) -> Arg<'a>
 {
     text(alloc, "threads", "N")
         .value_parser(value_parser!(u32))
-        .help("How many workers there are, 1 to 1024 [default: 4 in threads, 2 in events]")
+        .help("Number of workers, 1 to 1024 [default: 4 in threads, 2 in events]")
 }
 
 /// `--clients N`, which may be left out.
@@ -79,8 +79,8 @@ fn clients<'a>(alloc: Global) -> Arg<'a>
     ensures rule { rule_of result ≡ clients_option }
     ensures local { result.global ≡ false }
 {
-    let help = "How many clients there are at once in events, from 1; without it as many as \
-        the descriptors allow";
+    let help = "Maximum number of clients at once in events, from 1; without it as many as the \
+        descriptors allow";
     from_one(text(alloc, "clients", "N").help(help))
 }
 
@@ -89,7 +89,7 @@ fn keys_at_once<'a>(alloc: Global) -> Arg<'a>
     ensures rule { rule_of result ≡ keys_option }
     ensures local { result.global ≡ false }
 {
-    let help = "How many keys of a request are asked for at once in events, 1 to 256";
+    let help = "Maximum number of keys of a request in flight at once in events, 1 to 256";
     let keys = number(alloc, "keys-at-once", DEFAULT_KEYS_AT_ONCE, help);
     keys.value_parser(ValueParser::signed(KEYS_AT_ONCE.0, KEYS_AT_ONCE.1))
 }
@@ -100,8 +100,8 @@ fn group_keys<'a>(alloc: Global) -> Arg<'a>
     ensures local { result.global ≡ false }
 {
     switch(alloc, "group-keys").help(
-        "Keys asked for at once that go to the same server go out as one get; with \
-            --keys-at-once from 2",
+        "Sends keys of a request that go to the same server as one get; needs \
+            --keys-at-once of at least 2",
     )
 }
 
@@ -109,6 +109,6 @@ fn connections<'a>(alloc: Global) -> Arg<'a>
     ensures rule { rule_of result ≡ connections_option }
     ensures local { result.global ≡ false }
 {
-    let help = "After how many connections it ends; 0 for never";
+    let help = "Number of connections after which it exits; 0 for never";
     number(alloc, "connections", DEFAULT_CONNECTIONS, help).value_parser(value_parser!(u64))
 }

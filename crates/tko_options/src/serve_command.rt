@@ -30,13 +30,13 @@ Example:
 Exit status:
   0  the last of --connections has ended
   1  a fault, with a line `fault: ..` on standard error
-  2  the command line was refused";
+  2  the command line is invalid";
 
 pub(crate) fn serve<'a>(alloc: Global) -> Result<Command<'a>, AllocError>
     ensures { IfOk result (ReadsAs serve_command) }
 {
     let serve = Command::new(alloc, "serve")
-        .about("Answers clients that connect to it, over memcached servers")
+        .about("Serves clients over memcached servers")
         .after_help(SERVE_HELP);
     let serve = with_ends(alloc, serve)?;
     let serve = with_clients(alloc, serve)?;
@@ -61,8 +61,8 @@ fn with_ends<'a>(alloc: Global, command: Command<'a>) -> Result<Command<'a>, All
 fn with_times<'a>(alloc: Global, command: Command<'a>) -> Result<Command<'a>, AllocError>
     ensures { (app : App) → ReadsAs app command.entry → IfOk result (ReadsAs (with_times app)) }
 {
-    let first = "How long the first probe of a marked server waits, in milliseconds, from 1";
-    let greatest = "How long any probe waits at most, in milliseconds, at least the first delay";
+    let first = "Delay of the first probe of a marked server, in milliseconds, from 1";
+    let greatest = "Maximum delay between two probes, in milliseconds, at least --first-delay";
     command
         .arg(timeout(alloc))?
         .arg(delay(alloc, "first-delay", DEFAULT_FIRST_DELAY, first))?
@@ -83,7 +83,7 @@ fn log<'a>(alloc: Global) -> Arg<'a>
 {
     text(alloc, "log", "WHERE")
         .default_value(DEFAULT_LOG)
-        .help("Where the event log goes, stderr or off")
+        .help("Destination of the event log: stderr or off")
 }
 
 /// `--metrics ADDRESS`, which may be left out.
@@ -92,7 +92,7 @@ fn metrics<'a>(alloc: Global) -> Arg<'a>
     ensures local { result.global ≡ false }
 {
     text(alloc, "metrics", "ADDRESS").help(
-        "Where it answers HTTP `GET /metrics` for Prometheus, <host>:<port>, as 127.0.0.1:9311",
+        "Address that answers HTTP `GET /metrics` for Prometheus, <host>:<port>, as 127.0.0.1:9311",
     )
 }
 
@@ -102,7 +102,7 @@ fn listen<'a>(alloc: Global) -> Arg<'a>
 {
     text(alloc, "listen", "ADDRESS")
         .required(true)
-        .help("Where it listens, <host>:<port>")
+        .help("Address to listen on, <host>:<port>")
 }
 
 /// `--config JSON`, without which `--config-file` is wanted.
@@ -112,7 +112,7 @@ pub(crate) fn config<'a>(alloc: Global) -> Result<Arg<'a>, AllocError>
     Arg::new(alloc, "config")
         .long("config")
         .value_name("JSON")
-        .help("The pools and the route, as text")
+        .help("Pools and route, as JSON")
         .required_unless_present("config-file")
 }
 
@@ -124,7 +124,7 @@ pub(crate) fn required_file<'a>(alloc: Global) -> Result<Arg<'a>, AllocError>
     Arg::new(alloc, "config-file")
         .long("config-file")
         .value_name("PATH")
-        .help("The file of the configuration, in place of --config")
+        .help("File with the configuration, instead of --config")
         .required_unless_present("config")?
         .conflicts_with("config")
 }
@@ -133,7 +133,7 @@ fn timeout<'a>(alloc: Global) -> Arg<'a>
     ensures rule { rule_of result ≡ limit_option (codes "timeout") default_timeout }
     ensures local { result.global ≡ false }
 {
-    let help = "How long an exchange with a server may take, in milliseconds, from 1";
+    let help = "Time limit of an exchange with a server, in milliseconds, from 1";
     limit(alloc, "timeout", DEFAULT_TIMEOUT, help)
 }
 

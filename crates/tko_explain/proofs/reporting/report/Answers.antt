@@ -6,4 +6,4 @@ use Rattle.tko_explain.proofs.reporting.report.Goals as goal
 pub returns-in-Ok-report_of-clause-ok : goal.returns-in-Ok-report_of-clause-ok
 returns-in-Ok-report_of-clause-ok c =
     is_report c.args.json.now _ _ (view c.in-Ok.root) (view c.in-Some.pools.now) _ _ (rw c.as_bytes.ensures.value at c.in_ok-config.ensures.ok)
-    (search rules) (search rules) c.in-Ok-key_text.ensures c.in-Ok-report_of.ensures
+    (search rules) (search rules) c.in-Ok-warnings_over.ensures (rw c.deref.ensures.value at c.in-Ok-report_of.ensures)
