@@ -1,6 +1,6 @@
 /* Put before libc by LD_PRELOAD: looks hosts up in the file NAMES in place of the system's resolver. Each of its lines
-   is a host and what is found: addresses with commas between them, `nothing`, or `hangs`, which lasts until the line is
-   another one. Each look-up adds a line with the host to the file LOOKED_UP. */
+   is a host and what is found: addresses with commas between them, `nothing`, `silence` of the name servers, or
+   `hangs`, which lasts until the line is another one. Each look-up adds a line with the host to the file LOOKED_UP. */
 #define _GNU_SOURCE
 #include <dlfcn.h>
 #include <netdb.h>
@@ -42,6 +42,8 @@ int getaddrinfo(const char *host, const char *service, const struct addrinfo *hi
         read_answer(host, answer, sizeof answer);
     if (strcmp(answer, "nothing") == 0)
         return EAI_NONAME;
+    if (strcmp(answer, "silence") == 0)
+        return EAI_AGAIN;
     struct addrinfo **end = found;
     for (char *rest, *address = strtok_r(answer, ",", &rest); address; address = strtok_r(NULL, ",", &rest)) {
         int status = next(address, service, hints, end);

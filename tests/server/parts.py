@@ -20,8 +20,8 @@ from talk import Client
 PROGRAM = os.environ["TKOPROXY"]
 MODE = os.environ.get("TKO_MODE", "events")
 MODE_WORDS = ["--mode", MODE] if "TKO_MODE" in os.environ else []
-# A line of the event log: its time, the event, and what is told of it.
-LOG_LINE = rb"\d{4}-\d\d-\d\dT\d\d:\d\d:\d\d\.\d{3}Z [a-z]+( [a-z]+=[^ \n]+)*"
+# A line of the event log: its time, the event, which may have two words, and what is told of it.
+LOG_LINE = rb"\d{4}-\d\d-\d\dT\d\d:\d\d:\d\d\.\d{3}Z [a-z]+( [a-z]+)?( [a-z]+=[^ \n]+)*"
 # As /proc/net/tcp lists them.
 HOST_AS_LISTED, ESTABLISHED = "0100007F", "01"
 started = []

@@ -6,6 +6,7 @@ import struct
 import subprocess
 import termios
 import threading
+from datetime import datetime
 
 from parts import ServerTest, configuration, serve_words, start, stop
 from ports import HOST, free_port, is_open, wait_until
@@ -20,11 +21,16 @@ def without_count(line):
     return re.sub(r" count=\d+$", "", line)
 
 
+def lines_of(proxy):
+    """The time and the words of each line of its log so far."""
+    lines = [line.split(" ", 1) for line in proxy.error_text().decode().splitlines() if STAMP.match(line)]
+    return [(datetime.fromisoformat(stamp.replace("Z", "+00:00")), words) for stamp, words in lines]
+
+
 def log_of(proxy):
     """The lines of its log so far, without their times. Lines that differ in their count alone are one line."""
-    lines = [STAMP.sub("", line) for line in proxy.error_text().decode().splitlines() if STAMP.match(line)]
     kept = []
-    for line in lines:
+    for _, line in lines_of(proxy):
         if not kept or without_count(line) != without_count(kept[-1]):
             kept.append(line)
     return kept

@@ -7,6 +7,7 @@ import time
 from parts import ServerTest, configuration
 from ports import free_port, wait_until
 from talk import store, values
+from test_log import lines_of
 
 HOST = "cache.test"
 NO_SERVER = b"SERVER_ERROR no server\r\n"
@@ -59,6 +60,12 @@ class Names(ServerTest):
         env = {**os.environ, "LD_PRELOAD": self.naming, "NAMES": self.names, "LOOKED_UP": self.looked_up}
         return self.proxy(config, env=env, **options)
 
+    def look_ups_end(self, proxy, *lines):
+        """Its log has come to say this, and nothing else, of look-ups."""
+        said = lambda: [words for _, words in lines_of(proxy) if "resolved" in words]
+        wait_until(lambda: len(said()) >= len(lines), SLACK, f"the log says {lines[-1:]}")
+        self.assertEqual(said(), list(lines))
+
     def answers(self, client, request, reply):
         wait_until(lambda: client.ask(request) == reply, SLACK, f"{request!r} is answered {reply!r}")
 
@@ -97,6 +104,34 @@ class Names(ServerTest):
         proxy = self.proxy_of(configuration(only=[Named(free_port())]), timeout=60000)
         client = self.client(proxy.port)
         self.assertEqual(client.ask(b"get a\r\n"), NO_SERVER)
+
+    def test_a_name_that_cannot_be_looked_up_is_logged_and_again_when_that_changes(self):
+        server = self.memcached()
+        self.say(HOST, "nothing")
+        proxy = self.proxy_of(configuration(only=[Named(server.port)]), **DELAYS)
+        client, name = self.client(proxy.port), f"server={HOST}:{server.port}"
+        lines = [f"unresolved {name} reason=unknown"]
+        self.look_ups_end(proxy, *lines)
+        # The server is marked, and each of its probes asks for a look-up.
+        self.assertEqual(client.ask(b"get a\r\n"), NO_SERVER)
+        for found, line in (("silence", f"unresolved {name} reason=no_answer"), ("127.0.0.1", f"resolved {name}")):
+            before = len(self.look_ups())
+            wait_until(lambda: len(self.look_ups()) > before + 3, SLACK, "more look-ups")
+            self.look_ups_end(proxy, *lines)
+            self.say(HOST, found)
+            lines.append(line)
+            self.look_ups_end(proxy, *lines)
+        self.answers(client, store(b"a", b"x"), b"STORED\r\n")
+        self.look_ups_end(proxy, *lines)
+
+    def test_each_server_of_a_name_is_logged_once_its_look_up_ended(self):
+        ports = [free_port(), free_port()]
+        config = configuration(first=[Named(ports[0]), self.closed()], second=[Named(ports[1])])
+        proxy = self.proxy_of(config, threads=1)
+        self.wait_for_look_ups(HOST)
+        self.look_ups_end(proxy)
+        self.say(HOST, "nothing")
+        self.look_ups_end(proxy, *(f"unresolved server={HOST}:{port} reason=unknown" for port in ports))
 
     def test_a_known_address_serves_while_the_resolver_hangs(self):
         server = self.memcached()

@@ -8,9 +8,10 @@ use crate::loads::worker_load;
 use crate::origin::Opening;
 use std::marker::{Model, PhantomData};
 use std::sync::Wait;
+use std::time::Clock;
 use tko_bytes::NoMemory;
 use tko_io::IoRuntime;
-use tko_loop::Load;
+use tko_loop::{Load, ServerLack};
 use tko_model::{Counts, Kind};
 use tko_prober::ProbeEnd;
 use tko_reply::Trails;
@@ -85,6 +86,13 @@ impl<'a, 'r, N: Opening> Accounted<'a, 'r, N> {
     pub(crate) fn set_load(&self, load: Option<Load>) {
         if let Some(load) = load {
             self.metered.set_load(worker_load(&load));
+        }
+    }
+
+    /// Tells what the proxy itself lacked for a connection, if it lacked anything.
+    pub(crate) fn tell_lack<R: Wait + Clock>(&self, rt: &R, lacked: Option<ServerLack>) {
+        if let Some(ServerLack { server, lack }) = lacked {
+            self.metered.log().tell_lack(rt, server, lack);
         }
     }
 

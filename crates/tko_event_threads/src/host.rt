@@ -20,7 +20,7 @@ use tko_client::{EventClient, Lent};
 use tko_health::Health;
 use tko_io::IoRuntime;
 use tko_keys::KeyPlan;
-use tko_loop::{Host, Load};
+use tko_loop::{Host, Load, ServerLack};
 use tko_port::Port;
 use tko_roster::PartsVisit;
 use tko_rounds::Rounds;
@@ -37,6 +37,8 @@ pub(crate) struct EventHost<'r, R> {
     refused: u64,
     /// How much the worker serves, if there was a walk since the last turn.
     load: Option<Load>,
+    /// What the proxy itself lacked for a connection since the last turn, if it lacked anything.
+    lacked: Option<ServerLack>,
 }
 
 /// What is counted at the end of a turn.
@@ -48,6 +50,7 @@ struct TurnEnd<'r, R> {
     ran_out: bool,
     refused: u64,
     load: Option<Load>,
+    lacked: Option<ServerLack>,
     /// How many probes were sent in all.
     sent: u64,
 }
@@ -63,6 +66,7 @@ impl<'r, R: IoRuntime> EventHost<'r, R> {
             keys,
             refused: 0,
             load: None,
+            lacked: None,
         }
     }
 
@@ -95,6 +99,7 @@ impl<'r, R: IoRuntime> EventHost<'r, R> {
             ran_out,
             refused: self.refused,
             load: self.load.take(),
+            lacked: self.lacked.take(),
             sent: self.probes(),
         };
         self.refused = 0;
@@ -121,6 +126,7 @@ impl<'r, 'c, 'a, 'm, R: IoRuntime, H: Health, N: Opening, C> PartsVisit<
         trails.count_ends(&self.ends);
         trails.refuse_clients(self.refused);
         trails.set_load(self.load);
+        trails.tell_lack(self.rt, self.lacked);
         if are_any(&self.ends) {
             trails.settle(self.rt, self.sent);
         }
@@ -155,6 +161,10 @@ impl<'r, 'c, 'a, 'm, R: IoRuntime, H: Health, N: Opening, C: Drop> Host<
 
     fn looked(&mut self, load: &Load) {
         self.load = Some(*load);
+    }
+
+    fn lacked(&mut self, lacked: ServerLack) {
+        self.lacked = Some(lacked);
     }
 
     fn refused(&mut self) {

@@ -71,5 +71,7 @@ marking_in what.Started = None
 marking_in what.Listening = None
 marking_in (what.Server server worker change cause) =
     option_map (λ mark. (server, mark)) (marking_after change)
+marking_in (what.Lacking server lack) = None
+marking_in (what.LookedUp server end) = None
 marking_in (what.Clients sessions faults) = None
 marking_in what.Ended = None

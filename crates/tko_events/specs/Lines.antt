@@ -1,6 +1,10 @@
--- The words and the numbers of a server's line.
+-- The words and the numbers of a server's lines.
 use Rattle.std.specs.Prelude.{◌≡◌, ℕ, ◌+◌, List, Option, Some, None, codes, length, map, option_map, replicate, slice_get, slice_index_or, String, string_bytes, unwrap_or}
 use Rattle.tko_bytes.specs.Numbers.{capped}
+use Rattle.tko_tcp.specs.declared.lack.Lack.{Lack}
+use Rattle.tko_tcp.specs.declared.lack.Lack.TheVariants as lack
+use Rattle.tko_tcp.specs.declared.look_ups.Unresolved.{Unresolved}
+use Rattle.tko_tcp.specs.declared.look_ups.Unresolved.TheVariants as reason
 use Rattle.tko_events.specs.declared.event.Cause.{Cause}
 use Rattle.tko_events.specs.declared.event.Cause.TheVariants as cause
 use Rattle.tko_events.specs.declared.event.ServerChange.{ServerChange}
@@ -27,6 +31,19 @@ cause_word (Some cause.Aborted) = codes "aborted"
 cause_word (Some cause.Spent) = codes "spent"
 cause_word (Some cause.Memory) = codes "memory"
 cause_word None = codes "none"
+
+abbrev pub lack_word : Lack → List ℕ
+lack_word lack.Ports = codes "ports"
+lack_word lack.Descriptors = codes "descriptors"
+lack_word lack.Memory = codes "memory"
+
+-- why the name of a server has no address
+abbrev pub reason_word : Unresolved → List ℕ
+reason_word reason.Unknown = codes "unknown"
+reason_word reason.NoAddress = codes "no_address"
+reason_word reason.NoAnswer = codes "no_answer"
+reason_word (reason.Lacking what) = lack_word what
+reason_word reason.Failed = codes "failed"
 
 abbrev pub mark_word : Marked → List ℕ
 mark_word marked.Up = codes "up"

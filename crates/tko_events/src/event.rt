@@ -1,11 +1,12 @@
 //! What the log tells.
 ghost use Rattle.std.specs.Prelude.{◌≡◌, None, Some};
 ghost use Rattle.tko_events.specs.Events.{cause_of, cause_of_outcome, change_after, change_in, marking_after, marking_in, reported_change};
-ghost use Rattle.tko_events.specs.Lines.{cause_word, change_word};
+ghost use Rattle.tko_events.specs.Lines.{cause_word, change_word, lack_word, reason_word};
 
 use tko_links::{ExchangeNoMemory, Outcome};
 use tko_metrics::Marking;
 use tko_model::Reply;
+use tko_tcp::{Lack, LookUpEnd, Unresolved};
 
 /// One event.
 #[derive(Clone, Copy, Debug, PartialEq, Eq)]
@@ -29,6 +30,16 @@ pub enum What {
         worker: u32,
         change: ServerChange,
         cause: Option<Cause>,
+    },
+    /// A connection to this server could not be made for what the proxy itself lacked.
+    Lacking {
+        server: usize,
+        lack: Lack,
+    },
+    /// A look-up of this server's name ended otherwise than the one before it.
+    LookedUp {
+        server: usize,
+        end: LookUpEnd,
     },
     /// How many sessions have ended, and how many of them by a fault.
     Clients {
@@ -128,6 +139,7 @@ impl What {
         match self {
             What::Server { server, change, .. } => Some((server, change.marking()?)),
             What::Started | What::Listening | What::Clients { .. } | What::Ended => None,
+            What::Lacking { .. } | What::LookedUp { .. } => None,
         }
     }
 }
@@ -214,5 +226,29 @@ impl Cause {
             Some(Cause::Memory) => "memory",
             None => "none",
         }
+    }
+}
+
+/// What was lacking, as the second word of its line.
+pub(crate) fn lack_word(lack: Lack) -> &'static str
+    ensures { result.now ≡ lack_word lack }
+{
+    match lack {
+        Lack::Ports => "ports",
+        Lack::Descriptors => "descriptors",
+        Lack::Memory => "memory",
+    }
+}
+
+/// The word of a reason for which a look-up found no address.
+pub(crate) fn reason_word(reason: Unresolved) -> &'static str
+    ensures { result.now ≡ reason_word reason }
+{
+    match reason {
+        Unresolved::Unknown => "unknown",
+        Unresolved::NoAddress => "no_address",
+        Unresolved::NoAnswer => "no_answer",
+        Unresolved::Lacking(lack) => lack_word(lack),
+        Unresolved::Failed => "failed",
     }
 }

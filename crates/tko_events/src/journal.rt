@@ -3,9 +3,10 @@ ghost use Rattle.std.specs.Prelude.{◌≡◌, ◌<◌, ◌+◌, IfOk, length, m
 ghost use Rattle.tko_bytes.specs.Numbers.{capped};
 ghost use Rattle.tko_events.specs.Lines.{IsJournalBegun, address_at, count_in, known_after, known_at, mark_word};
 
-use crate::event::{Cause, LogEvent, ServerChange, What};
+use crate::event::{Cause, LogEvent, ServerChange, What, lack_word, reason_word};
 use crate::moment::Utc;
 use std::alloc::{AllocError, Global};
+use tko_tcp::{Lack, LookUpEnd};
 
 /// The mark of a server in a line.
 #[derive(Clone, Copy, Debug, PartialEq, Eq)]
@@ -69,6 +70,8 @@ impl Journal {
                 change,
                 cause,
             } => self.server_line(alloc, utc, server, worker, change, cause),
+            What::Lacking { server, lack } => self.lack_line(alloc, utc, server, lack),
+            What::LookedUp { server, end } => self.name_line(alloc, utc, server, end),
             What::Clients { sessions, faults } => {
                 format!(in alloc; "{utc} clients sessions={sessions} faults={faults}\n")
             }
@@ -93,6 +96,40 @@ impl Journal {
         format!(in alloc;
             "{utc} {word} server={name} mark={mark} worker={worker} outcome={cause} count={count}\n"
         )
+    }
+
+    /// The line of what the proxy itself lacked. Ports are lacking for a server, and all else for
+    /// any.
+    fn lack_line(
+        &self,
+        alloc: Global,
+        utc: Utc,
+        server: usize,
+        lack: Lack,
+    ) -> Result<String, AllocError> {
+        let (word, name) = (lack_word(lack), self.name(server));
+        match lack {
+            Lack::Ports => format!(in alloc; "{utc} lacking {word} server={name}\n"),
+            Lack::Descriptors | Lack::Memory => format!(in alloc; "{utc} lacking {word}\n"),
+        }
+    }
+
+    /// The line of how a look-up of a server's name ended.
+    fn name_line(
+        &self,
+        alloc: Global,
+        utc: Utc,
+        server: usize,
+        end: LookUpEnd,
+    ) -> Result<String, AllocError> {
+        let name = self.name(server);
+        match end {
+            LookUpEnd::Found => format!(in alloc; "{utc} resolved server={name}\n"),
+            LookUpEnd::Unresolved(reason) => {
+                let reason = reason_word(reason);
+                format!(in alloc; "{utc} unresolved server={name} reason={reason}\n")
+            }
+        }
     }
 
     /// The address of a server.

@@ -1,5 +1,6 @@
 //! The event log of a server, beside its workers: each mark of a server that was set, hardened or
-//! removed, and each probe, as a line of text.
+//! removed, each probe, what the proxy itself lacks, and names that cannot be looked up, as lines
+//! of text.
 //!
 //! - `LogEvent`: what the log tells, with its moment. `ServerChange` is what became of a server's
 //!   mark, or that it was probed, and `Cause` what came of the send or of the probe.
@@ -13,6 +14,7 @@
 
 mod event;
 mod journal;
+mod lacks;
 mod log;
 mod moment;
 mod reader;

@@ -1,6 +1,7 @@
 //! The end of the log that takes events.
 
 use crate::event::{LogEvent, What};
+use crate::lacks::SaidLacks;
 use crate::moment::now;
 use crate::reader::LogReader;
 use crossbeam_channel::{Sender, TrySendError, bounded};
@@ -8,7 +9,9 @@ use std::alloc::{AllocError, Global};
 use std::sync::atomic::{AtomicU64, Ordering};
 use std::sync::{Arc, Wait};
 use std::time::Clock;
+use tko_io::IoRuntime;
 use tko_metrics::Meter;
+use tko_tcp::{Lack, LookUpEnd, LookUpObserver};
 
 /// How many events wait for the reader at most; more are counted and lost.
 const MAX_PENDING: usize = 4096;
@@ -24,6 +27,7 @@ pub(crate) struct SharedLog {
     pub(crate) sessions: AtomicU64,
     pub(crate) faults: AtomicU64,
     pub(crate) ended: AtomicU64,
+    said: SaidLacks,
 }
 
 /// Takes events from any thread. It never waits for a reader: where no room is left, an event is
@@ -45,6 +49,7 @@ pub fn open(alloc: Global) -> Result<(Log, LogReader), AllocError> {
             sessions: AtomicU64::new(0),
             faults: AtomicU64::new(0),
             ended: AtomicU64::new(0),
+            said: SaidLacks::new(),
         },
     )?;
     let reader = LogReader {
@@ -109,6 +114,24 @@ impl Log {
         }
     }
 
+    /// Tells that a connection to a server could not be made for what the proxy itself lacked, at
+    /// most once in ten seconds for each lack, whichever thread tells it.
+    pub fn tell_lack<R: Wait + Clock>(&self, rt: &R, server: usize, lack: Lack) {
+        let Some(shared) = &self.shared else {
+            return;
+        };
+        let moment = now(rt);
+        if shared.said.say(lack, moment) {
+            self.send(
+                rt,
+                LogEvent {
+                    moment: Some(moment),
+                    what: What::Lacking { server, lack },
+                },
+            );
+        }
+    }
+
     /// Counts a session that has ended.
     pub fn count_session(&self, is_faulty: bool) {
         if let Some(shared) = &self.shared {
@@ -140,5 +163,11 @@ impl Log {
             }
         }
         shared.lost.fetch_add(1, Ordering::SeqCst);
+    }
+}
+
+impl LookUpObserver for Log {
+    fn looked_up<R: IoRuntime>(&self, rt: &R, server: usize, end: LookUpEnd) {
+        self.tell(rt, What::LookedUp { server, end });
     }
 }

@@ -1,9 +1,10 @@
 -- The addresses of a server, in turn.
-use Rattle.std.specs.Prelude.{◌≡◌, ◌==◌, ◌+◌, ◌-◌, ◌&&◌, ◌||◌, not, nat_le, nat_lt, if◌then◌else◌, ℕ, Bool, true, false, List, [], ◌∷◌, Option, Some, None, Result, Ok, Err, IfOk, OnErr, length, slice_get, unwrap_or}
+use Rattle.std.specs.Prelude.{◌≡◌, ◌==◌, ◌+◌, ◌-◌, ◌&&◌, nat_le, nat_lt, if◌then◌else◌, ℕ, Bool, true, false, List, [], ◌∷◌, Option, Some, None, Result, Ok, Err, IfOk, OnErr, length, slice_get, unwrap_or}
 use Rattle.std.specs.declared.net.socket_addr.SocketAddr.{SocketAddr}
 use Rattle.std.specs.Net.Socket.{socket_flowinfo, socket_ip, socket_port, socket_scope_id}
 use Rattle.tko_bytes.specs.Numbers.{capped}
 use Rattle.tko_bytes.specs.declared.memory.NoMemory.{NoMemory}
+use Rattle.tko_tcp.specs.declared.lack.Lack.{Lack}
 use Rattle.tko_tcp.specs.declared.named_host.NamedHost.{NamedHost}
 use Rattle.tko_tcp.specs.declared.server_host.Known.{Known}
 use Rattle.tko_tcp.specs.declared.server_host.Known.TheVariants as known
@@ -115,6 +116,10 @@ abbrev pub IsListedAs : Option NamedHost → SocketAddr → SocketAddr → Type 
 IsListedAs None listed address = address ≡ listed
 IsListedAs (Some host) listed address = IsAtPort host.port listed address
 
+-- what was lacking counts no more once all addresses are to be tried
+abbrev pub lacked_of : (tried : ℕ) → (lacked : Option Lack) → Option Lack
+lacked_of tried lacked = if tried == 0 then None else lacked
+
 -- the address at a place is taken, and the next one is that after it; with the first one that is
 -- tried, nothing of those before counts any more
 abbrev pub taking : Addresses → Addresses
@@ -122,7 +127,7 @@ taking it = record it {
   last = it.next;
   next = following it.next (length it.all.items);
   refused = it.refused && nat_lt 0 it.tried;
-  lacked = it.lacked && nat_lt 0 it.tried;
+  lacked = lacked_of it.tried it.lacked;
   tried = capped (it.tried + 1);
 }
 
@@ -149,21 +154,39 @@ is_last_reached (Some known) place = known == place
 
 -- no connection could be made at the address that was tried last: it failed; or the proxy itself
 -- lacked what that takes, which counts where the address was reached last
-abbrev pub noting_failure : (is_lack : Bool) → Addresses → Addresses
-noting_failure true it = record it { lacked = it.lacked || is_last_reached it.reached it.last }
-noting_failure false it = record it { refused = true }
+abbrev pub noting_failure : Option Lack → Addresses → Addresses
+noting_failure (Some lack) it =
+    record it { lacked = if is_last_reached it.reached it.last then Some lack else it.lacked }
+noting_failure None it = record it { refused = true }
 
--- what follows once none is left: the server failed only if one of its addresses did, and the one
--- that was reached last could be tried
-abbrev pub end_of : Addresses → Unmade
-end_of it = if it.lacked || not it.refused then Lacking else Refused
+-- what follows once none is left, where nothing was lacking at the address that was reached last:
+-- the server failed if one of its addresses did
+abbrev pub unmade_by : (lack : Option Lack) → (refused : Bool) → Unmade
+unmade_by (Some lack) false = Lacking lack
+unmade_by (Some lack) true = Refused
+unmade_by None refused = Refused
+
+-- the server failed only if one of its addresses did, and the one that was reached last could be
+-- tried
+abbrev pub unmade_of_lacked : (lacked lack : Option Lack) → (refused : Bool) → Unmade
+unmade_of_lacked (Some lacked) lack refused = Lacking lacked
+unmade_of_lacked None lack refused = unmade_by lack refused
+
+abbrev pub unmade_of : (lack : Option Lack) → Addresses → Unmade
+unmade_of lack it = unmade_of_lacked it.lacked lack it.refused
 
 -- the next one is tried, if one is left; else those that wait are told
-abbrev pub IsUnmade : (left is_lack : Bool) → Addresses → Unmade → Addresses → Type 0
-IsUnmade true is_lack old result new = (result ≡ Next) × (new ≡ noting_failure is_lack old)
-IsUnmade false is_lack old result new =
-    (result ≡ end_of (noting_failure is_lack old))
-    × (new ≡ record (noting_failure is_lack old) { tried = 0 })
+abbrev pub IsUnmade : (left : Bool) → (lack : Option Lack) → Addresses → Unmade → Addresses → Type 0
+IsUnmade true lack old result new = (result ≡ Next) × (new ≡ noting_failure lack old)
+IsUnmade false lack old result new =
+    (result ≡ unmade_of lack (noting_failure lack old))
+    × (new ≡ record (noting_failure lack old) { tried = 0 })
+
+-- what the proxy itself lacked, if that is why no connection was made
+abbrev pub lack_in : Unmade → Option Lack
+lack_in Next = None
+lack_in Refused = None
+lack_in (Lacking lack) = Some lack
 
 -- the next address was taken, if there is one
 abbrev pub IsTakenOf : Option SocketAddr → Addresses → Option SocketAddr → Addresses → Type 0

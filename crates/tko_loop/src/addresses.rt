@@ -2,13 +2,14 @@
 ghost use Rattle.std.specs.Prelude.{◌≡◌, ◌<◌, None, IfOk, is_some, length, nat_lt};
 ghost use Rattle.tko_tcp.specs.declared.server_host.ServerHost.{ServerHost};
 ghost use Rattle.tko_tcp.specs.ServerHosts.{LeadsTo};
-ghost use Rattle.tko_loop.specs.Addresses.{AreAddressesOf, AreFreshAddresses, IsAddressTaken, IsBegunIf, IsConnectBegun, IsRenewed, IsUnmade, awaited_of, following, is_last_reached, noting_failure, passing, place_in, first_place_of, reach_of, reached_of, reaching, until_of};
+ghost use Rattle.tko_loop.specs.Addresses.{AreAddressesOf, AreFreshAddresses, IsAddressTaken, IsBegunIf, IsConnectBegun, IsRenewed, IsUnmade, awaited_of, following, is_last_reached, noting_failure, passing, place_in};
+ghost use Rattle.tko_loop.specs.Addresses.{unmade_of, first_place_of, lack_in, lacked_of, reach_of, reached_of, reaching, until_of};
 
 use std::alloc::{AllocError, Global};
 use std::net::SocketAddr;
 use std::sync::Wait;
 use tko_bytes::NoMemory;
-use tko_tcp::{Known, NamedHost, Names, ServerHost, share_until};
+use tko_tcp::{Known, Lack, NamedHost, Names, ServerHost, share_until};
 
 /// Where a server may be. Its addresses are tried one after another, from the one on at which a
 /// connection was made last by any worker. While others are left, each has an equal part of the
@@ -30,9 +31,9 @@ pub struct Addresses {
     reached: Option<usize>,
     /// Whether one of those that were tried failed, and that for no lack of the proxy itself.
     refused: bool,
-    /// Whether the proxy itself lacked what it takes to connect to the address that was reached
-    /// last.
-    lacked: bool,
+    /// What the proxy itself lacked for a connection to the address that was reached last, if it
+    /// lacked anything.
+    lacked: Option<Lack>,
     /// Until when a connection is tried at the address that was tried last, if others are left.
     until: Option<u64>,
     /// While a look-up is awaited: how many had ended when it was asked for.
@@ -56,8 +57,20 @@ pub(crate) enum Unmade {
     Next,
     /// The server failed: at none of its addresses a connection could be made.
     Refused,
-    /// That cannot be told, for what the proxy itself lacked.
-    Lacking,
+    /// That cannot be told, for this which the proxy itself lacked.
+    Lacking(Lack),
+}
+
+impl Unmade {
+    /// What the proxy itself lacked, if that is why.
+    pub(crate) fn lack(self) -> Option<Lack>
+        ensures { result ≡ lack_in self }
+    {
+        match self {
+            Unmade::Next | Unmade::Refused => None,
+            Unmade::Lacking(lack) => Some(lack),
+        }
+    }
 }
 
 impl Addresses {
@@ -91,7 +104,7 @@ impl Addresses {
             tried: 0,
             reached: None,
             refused: false,
-            lacked: false,
+            lacked: None,
             until: None,
             awaited: None,
         }
@@ -158,7 +171,7 @@ impl Addresses {
         self.last = self.next;
         self.next = following(self.next, self.all.len());
         self.refused = self.refused && 0 < self.tried;
-        self.lacked = self.lacked && 0 < self.tried;
+        self.lacked = lacked_of(self.tried, self.lacked);
         self.tried = self.tried.saturating_add(1);
         Some(address)
     }
@@ -209,36 +222,54 @@ impl Addresses {
         self.until = None;
     }
 
-    /// A connection could not be made, perhaps for what the proxy itself lacked. Where the server
-    /// failed, a look-up is asked for.
-    pub(crate) fn failed<R: Wait>(&mut self, rt: &R, is_lack: bool) -> Unmade
-        ensures { IsUnmade (nat_lt self.old.tried (length self.old.all.items)) is_lack self.old
+    /// A connection could not be made, perhaps for this which the proxy itself lacked. Where the
+    /// server failed, a look-up is asked for.
+    pub(crate) fn failed<R: Wait>(&mut self, rt: &R, lack: Option<Lack>) -> Unmade
+        ensures { IsUnmade (nat_lt self.old.tried (length self.old.all.items)) lack self.old
             result self.new }
     {
-        self.note(is_lack);
+        self.note(lack);
         if self.tried < self.all.len() {
             return Unmade::Next;
         }
         self.tried = 0;
-        if self.lacked || !self.refused {
-            return Unmade::Lacking;
+        let unmade = self.end(lack);
+        if unmade == Unmade::Refused {
+            if let Some(host) = &self.host {
+                host.ask(rt);
+            }
         }
-        if let Some(host) = &self.host {
-            host.ask(rt);
-        }
-        Unmade::Refused
+        unmade
     }
 
     /// Notes why no connection could be made at the address that was tried last.
-    fn note(&mut self, is_lack: bool)
-        ensures { self.new ≡ noting_failure is_lack self.old }
+    fn note(&mut self, lack: Option<Lack>)
+        ensures { self.new ≡ noting_failure lack self.old }
     {
-        if is_lack {
-            self.lacked = self.lacked || is_last_reached(self.reached, self.last);
-        } else {
-            self.refused = true;
+        match lack {
+            Some(_) if is_last_reached(self.reached, self.last) => self.lacked = lack,
+            Some(_) => {}
+            None => self.refused = true,
         }
     }
+
+    /// What follows where none is left, and the last one failed for this lack or another reason.
+    fn end(&self, lack: Option<Lack>) -> Unmade
+        ensures { result ≡ unmade_of lack self.now }
+    {
+        match (self.lacked, lack) {
+            (Some(lack), _) => Unmade::Lacking(lack),
+            (None, Some(lack)) if !self.refused => Unmade::Lacking(lack),
+            _ => Unmade::Refused,
+        }
+    }
+}
+
+/// What was lacking, once all addresses are to be tried, is lacking no more.
+fn lacked_of(tried: usize, lacked: Option<Lack>) -> Option<Lack>
+    ensures { result ≡ lacked_of tried lacked }
+{
+    if tried == 0 { None } else { lacked }
 }
 
 /// Whether it is known, and this one.

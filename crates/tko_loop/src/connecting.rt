@@ -4,7 +4,7 @@ ghost use Rattle.tko_mux.specs.Muxes.{line_at};
 ghost use Rattle.tko_port.specs.Wires.{link_at};
 ghost use Rattle.tko_worker.specs.Turns.{socket_at};
 ghost use Rattle.tko_worker.specs.Workers.{IsInOrder};
-ghost use Rattle.tko_loop.specs.Connects.{IsToldUnmade, has_passed};
+ghost use Rattle.tko_loop.specs.Connects.{IsConnectGivenUp, IsToldUnmade, has_passed, lack_noted};
 ghost use Rattle.tko_loop.specs.Held.{held_port};
 
 use crate::addresses::{Reach, Unmade};
@@ -15,17 +15,26 @@ use tko_io::IoRuntime;
 use tko_pipe::Link;
 use tko_port::Talking;
 use tko_socket::{Connecting, Socket};
-use tko_tcp::lack_of;
+use tko_tcp::{Lack, lack_of};
 use tko_worker::{EventWorker, earlier};
 
-/// Begins a connection to each server to which one is wanted. Returns the first moment at which
-/// another address is to be tried than one of those at which connections are being made.
+/// What the proxy itself lacked for a connection to a server.
+#[derive(Clone, Copy, Debug, PartialEq, Eq)]
+pub struct ServerLack {
+    pub server: usize,
+    pub lack: Lack,
+}
+
+/// Begins a connection to each server to which one is wanted, and notes what was lacking. Returns
+/// the first moment at which another address is to be tried than one of those at which connections
+/// are being made.
 pub(crate) fn connect_all<R: IoRuntime, P, T: Talking<P> + Drop, K: Drop>(
     rt: &R,
     worker: &mut EventWorker<Held<K>, T, P>,
     servers: &mut Vec<Addresses>,
     registry: &Registry,
     now: u64,
+    lacked: &mut Option<ServerLack>,
 ) -> Option<u64>
     requires order { IsInOrder (T.awaited, T.talk, held_port) T.ready worker.old.clients }
     ensures order { IsInOrder (T.awaited, T.talk, held_port) T.ready worker.new.clients }
@@ -38,7 +47,7 @@ pub(crate) fn connect_all<R: IoRuntime, P, T: Talking<P> + Drop, K: Drop>(
         pass_over(worker, &mut servers[server], server, now);
         if worker.wants(server) {
             let token = server_token(servers.len(), server);
-            connect(
+            let lack = connect(
                 rt,
                 worker,
                 &mut servers[server],
@@ -47,6 +56,7 @@ pub(crate) fn connect_all<R: IoRuntime, P, T: Talking<P> + Drop, K: Drop>(
                 token,
                 now,
             );
+            note_lack(lacked, server, lack);
         } else {
             servers[server].rest();
         }
@@ -101,7 +111,8 @@ fn pending<P, T: Talking<P> + Drop, K: Drop>(
     None
 }
 
-/// Begins a connection to a server at its next address. A server without one fails at once.
+/// Begins a connection to a server at its next address. A server without one fails at once. Returns
+/// what the proxy itself lacked, if those that wait leave for that.
 fn connect<R: IoRuntime, P, T: Talking<P> + Drop, K: Drop>(
     rt: &R,
     worker: &mut EventWorker<Held<K>, T, P>,
@@ -110,41 +121,47 @@ fn connect<R: IoRuntime, P, T: Talking<P> + Drop, K: Drop>(
     registry: &Registry,
     token: Token,
     now: u64,
-)
+) -> Option<Lack>
     requires order { IsInOrder (T.awaited, T.talk, held_port) T.ready worker.old.clients }
     ensures order { IsInOrder (T.awaited, T.talk, held_port) T.ready worker.new.clients }
 {
     let address = match addresses.begin(rt) {
         Reach::At(address) => address,
-        Reach::Later => return,
-        Reach::Nowhere => return worker.failed(server),
+        Reach::Later => return None,
+        Reach::Nowhere => {
+            worker.failed(server);
+            return None;
+        }
     };
     match Socket::connect(rt, registry, token, address) {
         Ok(socket) => {
             addresses.begun(now, worker.due(server));
             worker.connecting(server, Held::server(socket));
+            None
         }
-        Err(error) => give_up(rt, worker, addresses, server, lack_of(&error).is_some()),
+        Err(error) => give_up(rt, worker, addresses, server, lack_of(&error)),
     }
 }
 
-/// An event came for a connection that is being made.
+/// An event came for a connection that is being made. Returns what the proxy itself lacked at
+/// another address before, if those that wait leave for that.
 pub(crate) fn advance<R: IoRuntime, P, T: Talking<P> + Drop, K: Drop>(
     rt: &R,
     worker: &mut EventWorker<Held<K>, T, P>,
     addresses: &mut Addresses,
     server: usize,
-)
+) -> Option<Lack>
     requires order { IsInOrder (T.awaited, T.talk, held_port) T.ready worker.old.clients }
     ensures order { IsInOrder (T.awaited, T.talk, held_port) T.ready worker.new.clients }
 {
     match how_far(worker, server) {
-        Connecting::Pending => {}
+        Connecting::Pending => None,
         Connecting::Made => {
             addresses.made();
             worker.connected(server);
+            None
         }
-        Connecting::Failed => give_up(rt, worker, addresses, server, false),
+        Connecting::Failed => give_up(rt, worker, addresses, server, None),
     }
 }
 
@@ -159,19 +176,33 @@ fn how_far<P, T: Talking<P> + Drop, K: Drop>(
     }
 }
 
-/// A connection to a server could not be made, perhaps for what the proxy itself lacked.
+/// A connection to a server could not be made, perhaps for this which the proxy itself lacked.
+/// Returns what it lacked, if those that wait leave for that.
 fn give_up<R: IoRuntime, P, T: Talking<P> + Drop, K: Drop>(
     rt: &R,
     worker: &mut EventWorker<Held<K>, T, P>,
     addresses: &mut Addresses,
     server: usize,
-    is_lack: bool,
-)
+    lack: Option<Lack>,
+) -> Option<Lack>
     requires order { IsInOrder (T.awaited, T.talk, held_port) T.ready worker.old.clients }
+    ensures given_up { server < length worker.old.peers.items → IsConnectGivenUp server lack
+        addresses.old addresses.new worker.old.clients.mux.lines worker.new.clients.mux.lines
+        result }
     ensures order { IsInOrder (T.awaited, T.talk, held_port) T.ready worker.new.clients }
 {
-    let unmade = addresses.failed(rt, is_lack);
+    let unmade = addresses.failed(rt, lack);
     settle(worker, server, unmade);
+    unmade.lack()
+}
+
+/// Notes what was lacking for a connection to a server, if anything was.
+pub(crate) fn note_lack(lacked: &mut Option<ServerLack>, server: usize, lack: Option<Lack>)
+    ensures { lacked.new ≡ lack_noted server lack lacked.old }
+{
+    if let Some(lack) = lack {
+        *lacked = Some(ServerLack { server, lack });
+    }
 }
 
 /// Has a connection tried again at the next address, if one is left. Else those that wait for it
@@ -189,6 +220,6 @@ fn settle<P, T: Talking<P> + Drop, K: Drop>(
     match unmade {
         Unmade::Next => worker.again(server),
         Unmade::Refused => worker.failed(server),
-        Unmade::Lacking => worker.lacked(server),
+        Unmade::Lacking(_) => worker.lacked(server),
     }
 }

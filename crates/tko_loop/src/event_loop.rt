@@ -16,7 +16,7 @@ use crate::seats::Seats;
 use crate::targets::seat_token;
 use crate::times::Times;
 use crate::walk::{look_at_all, relieve};
-use crate::{Addresses, Arrival, Held, Host, Load, LoopEntry, LoopLimits};
+use crate::{Addresses, Arrival, Held, Host, Load, LoopEntry, LoopLimits, ServerLack};
 use crossbeam_channel::TryRecvError;
 use mio::Events;
 use std::alloc::{AllocError, Global};
@@ -80,6 +80,8 @@ pub struct EventLoop<T, P, K> {
     walked: u64,
     /// The first moment at which a connection that is being made is given up for another address.
     until: Option<u64>,
+    /// What the proxy itself lacked last in this turn for a connection to a server.
+    lacked: Option<ServerLack>,
 }
 
 impl<P: Drop, T: Talking<P> + Drop, K: Drop> EventLoop<T, P, K> {
@@ -129,6 +131,7 @@ impl<P: Drop, T: Talking<P> + Drop, K: Drop> EventLoop<T, P, K> {
                 pause: 0,
                 walked: 0,
                 until: None,
+                lacked: None,
             }),
             Err(SharedParts { parts, .. }) => Err(parts),
         }
@@ -196,6 +199,7 @@ impl<P, T: Talking<P> + Drop, K: Drop> EventLoop<T, P, K> {
         self.turns.begin(shown, self.pause, is_noted);
         self.moment = self.turns.moments().began();
         self.connect(rt);
+        self.tell_lack(host);
         let intake = self.admit_all(rt, alloc, host);
         self.walk(alloc, host);
         self.end(rt, alloc, host, intake);
@@ -217,6 +221,7 @@ impl<P, T: Talking<P> + Drop, K: Drop> EventLoop<T, P, K> {
             &self.seats,
             alloc,
             &self.events,
+            &mut self.lacked,
         );
         let sockets = self
             .worker
@@ -242,7 +247,17 @@ impl<P, T: Talking<P> + Drop, K: Drop> EventLoop<T, P, K> {
             &mut self.servers,
             registry,
             self.moment,
+            &mut self.lacked,
         );
+    }
+
+    /// Tells the host what was lacking for a connection in this turn, if anything was.
+    fn tell_lack<H: Host<P, T>>(&mut self, host: &mut H)
+        ensures { self.new ≡ record self.old { lacked = None } }
+    {
+        if let Some(lacked) = self.lacked.take() {
+            host.lacked(lacked);
+        }
     }
 
     /// Takes in clients that other threads handed over.

@@ -1,7 +1,7 @@
 //! What a loop is for: whose clients it serves.
 ghost use Rattle.std.specs.Prelude.{◌≡◌, length};
 
-use crate::Load;
+use crate::{Load, ServerLack};
 use std::alloc::Global;
 use tko_bytes::NoMemory;
 use tko_port::{Port, Talking};
@@ -39,6 +39,10 @@ pub trait Host<P, T: Talking<P> + Drop> {
 
     /// Tells how much the worker serves, after each walk over its clients: one each 100 ms.
     fn looked(&mut self, load: &Load);
+
+    /// Tells what the proxy itself lacked last in a turn for a connection to a server, where those
+    /// that waited for it left for that.
+    fn lacked(&mut self, lacked: ServerLack);
 
     /// A client that came could not be taken in, and was closed: memory ran out, or its socket
     /// could not be registered.

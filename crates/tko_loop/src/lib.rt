@@ -9,6 +9,7 @@
 //! - `LoopLimits`: how long the loop waits for clients and servers, and how many bytes of replies
 //!   may wait.
 //! - `Load`: how much the worker serves, which the host is told after each walk.
+//! - `ServerLack`: what the proxy itself lacked for a connection, which the host is told.
 //! - `Held`: a client's socket, and what is kept until that is closed.
 //! - `Addresses`: where a server may be, each tried in turn.
 //! - A walk is a look at each client, each 100 ms: one that does not keep its limits is to leave.
@@ -34,6 +35,7 @@ mod times;
 mod walk;
 
 pub use addresses::Addresses;
+pub use connecting::ServerLack;
 pub use event_loop::{EventLoop, NextTurn};
 pub use handover::{Arrival, Handover, LoopEntry};
 pub use held::Held;

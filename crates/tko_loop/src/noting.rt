@@ -6,18 +6,20 @@ ghost use Rattle.tko_worker.specs.Turns.{OtherPeers, socket_at};
 ghost use Rattle.tko_loop.specs.Held.{held_port};
 ghost use Rattle.tko_loop.specs.Tellings.{IsNotedIf, IsToldAt, port_after, says_ended, told_of_reading, told_of_writing};
 
-use crate::connecting::advance;
+use crate::connecting::{advance, note_lack};
 use crate::seats::Seats;
 use crate::targets::{Target, target_of};
-use crate::{Addresses, Held};
+use crate::{Addresses, Held, ServerLack};
 use mio::Events;
 use mio::event::Event;
 use std::alloc::Global;
 use tko_io::IoRuntime;
 use tko_port::Talking;
+use tko_tcp::Lack;
 use tko_worker::{EventWorker, Worker};
 
-/// Notes all events of a turn, each at the socket that it is for. Returns how many there are.
+/// Notes all events of a turn, each at the socket that it is for, and what was lacking for a
+/// connection. Returns how many events there are.
 pub(crate) fn note_all<R: IoRuntime, P, T: Talking<P> + Drop, K: Drop>(
     rt: &R,
     worker: &mut EventWorker<Held<K>, T, P>,
@@ -25,6 +27,7 @@ pub(crate) fn note_all<R: IoRuntime, P, T: Talking<P> + Drop, K: Drop>(
     seats: &Seats,
     alloc: Global,
     events: &Events,
+    lacked: &mut Option<ServerLack>,
 ) -> usize
     requires order { IsInOrder (T.awaited, T.talk, held_port) T.ready worker.old.clients }
     ensures order { IsInOrder (T.awaited, T.talk, held_port) T.ready worker.new.clients }
@@ -34,7 +37,10 @@ pub(crate) fn note_all<R: IoRuntime, P, T: Talking<P> + Drop, K: Drop>(
         count = count.saturating_add(1);
         match target_of(servers.len(), event.token()) {
             Target::Waker => {}
-            Target::Server(server) => note_server(rt, worker, servers, server, event),
+            Target::Server(server) => {
+                let lack = note_server(rt, worker, servers, server, event);
+                note_lack(lacked, server, lack);
+            }
             Target::Seat(seat) => note_client(worker, alloc, seats.number(seat), event),
         }
     }
@@ -101,24 +107,27 @@ fn note_readable<P, T: Talking<P> + Drop, K: Drop>(
     }
 }
 
-/// Notes an event at the socket of a server.
+/// Notes an event at the socket of a server. Returns what the proxy itself lacked for a connection
+/// to it, if those that wait leave for that.
 fn note_server<R: IoRuntime, P, T: Talking<P> + Drop, K: Drop>(
     rt: &R,
     worker: &mut EventWorker<Held<K>, T, P>,
     servers: &mut Vec<Addresses>,
     server: usize,
     event: &Event,
-)
+) -> Option<Lack>
     requires order { IsInOrder (T.awaited, T.talk, held_port) T.ready worker.old.clients }
     ensures order { IsInOrder (T.awaited, T.talk, held_port) T.ready worker.new.clients }
 {
     if server >= servers.len() {
-        return;
+        return None;
     }
+    let mut lack = None;
     if worker.is_connecting(server) {
-        advance(rt, worker, &mut servers[server], server);
+        lack = advance(rt, worker, &mut servers[server], server);
     }
     note_ready(worker, server, event);
+    lack
 }
 
 /// Notes what may be done on the socket of a server.

@@ -5,6 +5,7 @@ use std::net::TcpListener;
 use std::thread;
 use std::thread::Threads;
 use tko_bytes::NoMemory;
+use tko_events::Log;
 use tko_io::IoRuntime;
 use tko_tcp::Names;
 
@@ -14,19 +15,21 @@ pub(crate) struct Naming {
 }
 
 impl Naming {
-    /// Starts to look up the hosts of these addresses, on a thread of its own where there are any.
-    /// Nobody joins it, so that a look-up that hangs doesn't delay the end of the program, which
-    /// cuts it off.
+    /// Starts to look up the hosts of these addresses, on a thread of its own where there are any,
+    /// which tells the log of names that cannot be looked up. Nobody joins it, so that a look-up
+    /// that hangs doesn't delay the end of the program, which cuts it off.
     pub(crate) fn start<R: IoRuntime<Listener = TcpListener> + Threads + Copy + Send + 'static>(
         rt: &R,
         alloc: Global,
         addresses: &[String],
+        log: &Log,
     ) -> Result<Naming, NoMemory> {
         let names = Names::open(alloc, addresses)?;
         if !names.is_empty() {
             let theirs = names.another()?;
+            let log = Log::another(Some(log))?;
             let rt = *rt;
-            thread::spawn(&rt, move || theirs.look_up_all(&rt)).map_err(|_| NoMemory)?;
+            thread::spawn(&rt, move || theirs.look_up_all(&rt, alloc, &log)).map_err(|_| NoMemory)?;
         }
         Ok(Naming { names })
     }

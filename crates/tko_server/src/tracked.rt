@@ -176,7 +176,7 @@ fn shared_by_all<
     ensures options { IfOk result (λ both. both.0.options.now ≡ options.now) }
     ensures shares { IfOk result (λ both. length both.1.items ≡ N.tracker.settings.threads) }
 {
-    let naming = Naming::start(rt, alloc, options.config.addresses())?;
+    let naming = Naming::start(rt, alloc, options.config.addresses(), log)?;
     let (book, shares) = Book::open(alloc, 0, options.settings.threads)?;
     let shared = WorkersShared {
         options,

@@ -1,6 +1,7 @@
 pub mod ExchangeTimes
 pub mod Hosts
 pub mod Lacks
+pub mod LookUps
 pub mod ProbeTimes
 pub mod ServerHosts
 pub mod TcpAddresses

@@ -1,8 +1,10 @@
 //! The addresses that are known for a host with a name, and what a connect does with them.
 ghost use Rattle.std.specs.Prelude.{◌≡◌, ◌≢◌, [], true, false};
 ghost use Rattle.tko_tcp.specs.Hosts.{IsLookUpEnded, IsNext};
+ghost use Rattle.tko_tcp.specs.LookUps.{IsEndTold};
 
 use crate::addresses::ResolvedAddresses;
+use crate::look_ups::LookUpEnd;
 
 /// The addresses that are known for a host, and whether its look-up is requested.
 #[derive(Drop)]
@@ -12,6 +14,8 @@ pub(crate) struct HostState {
     is_asked: bool,
     /// Changes whenever a look-up has ended.
     ended: u64,
+    /// How the last one ended; before the first, as if it had found addresses.
+    last: LookUpEnd,
 }
 
 /// What a connect does next.
@@ -30,11 +34,13 @@ impl HostState {
     pub(crate) fn new() -> HostState
         ensures known { result.known ≡ [] }
         ensures asked { result.is_asked ≡ true }
+        ensures last { result.last ≡ LookUpEnd.Found }
     {
         HostState {
             known: ResolvedAddresses::none(),
             is_asked: true,
             ended: 0,
+            last: LookUpEnd::Found,
         }
     }
 
@@ -68,14 +74,20 @@ impl HostState {
         }
     }
 
-    /// Records that a look-up has ended and found these addresses.
-    pub(crate) fn answer(&mut self, found: ResolvedAddresses)
-        ensures { IsLookUpEnded self.old found self.new }
+    /// Records that a look-up has ended and found these addresses, and how. Returns how it ended,
+    /// if the one before it ended otherwise.
+    pub(crate) fn answer(&mut self, found: ResolvedAddresses, end: LookUpEnd) -> Option<LookUpEnd>
+        ensures ended { IsLookUpEnded self.old found self.new }
+        ensures last { self.new.last ≡ end }
+        ensures told { IsEndTold self.old.last end result }
     {
         if !found.as_slice().is_empty() {
             self.known = found;
         }
         self.is_asked = false;
         self.ended = self.ended.checked_add(1).unwrap_or(0);
+        let before = self.last;
+        self.last = end;
+        if end == before { None } else { Some(end) }
     }
 }

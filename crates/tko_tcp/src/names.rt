@@ -27,26 +27,26 @@ const LOW_HALF: u64 = 1 << 32;
 /// them.
 #[derive(Drop)]
 pub struct Names {
-    shared: Arc<SharedNames, Global>,
+    pub(crate) shared: Arc<SharedNames, Global>,
 }
 
 #[derive(Drop)]
-struct SharedNames {
-    hosts: Vec<HostEntry>,
+pub(crate) struct SharedNames {
+    pub(crate) hosts: Vec<HostEntry>,
     /// The servers at these hosts.
-    servers: Vec<ReachedServer>,
+    pub(crate) servers: Vec<ReachedServer>,
     /// Changes whenever a look-up is requested, and by `end`.
-    asks: AtomicU64,
+    pub(crate) asks: AtomicU64,
     /// Changes whenever a look-up has ended.
-    answers: AtomicU64,
-    is_ended: AtomicBool,
+    pub(crate) answers: AtomicU64,
+    pub(crate) is_ended: AtomicBool,
 }
 
 /// A host with a name, and what is known of it.
 #[derive(Drop)]
 pub(crate) struct HostEntry {
-    name: String,
-    state: Mutex<HostState>,
+    pub(crate) name: String,
+    pub(crate) state: Mutex<HostState>,
 }
 
 impl Names {
@@ -54,10 +54,11 @@ impl Names {
     pub fn open(alloc: Global, addresses: &[String]) -> Result<Names, NoMemory> {
         let mut hosts = Vec::new(alloc);
         let mut servers = Vec::new(alloc);
-        for address in addresses {
-            if let Some(name) = name_in(address.as_str()) {
-                add(alloc, &mut hosts, name)?;
-                servers.push(ReachedServer::new(alloc, address.as_str())?)?;
+        for number in 0..addresses.len() {
+            let address = addresses[number].as_str();
+            if let Some(name) = name_in(address) {
+                let host = add(alloc, &mut hosts, name)?;
+                servers.push(ReachedServer::new(alloc, address, number, host)?)?;
             }
         }
         let shared = SharedNames {
@@ -84,44 +85,10 @@ impl Names {
         self.shared.hosts.is_empty()
     }
 
-    /// Looks up each host whose look-up is requested, one after another, until `end` is called. A
-    /// look-up that has begun by then is finished first.
-    pub fn look_up_all<R: IoRuntime>(&self, rt: &R) {
-        for _ in rt.forever() {
-            let asks = self.shared.asks.load(Ordering::SeqCst);
-            for host in &self.shared.hosts {
-                if self.has_ended() {
-                    return;
-                }
-                self.look_up_asked(rt, host);
-            }
-            if self.has_ended() {
-                return;
-            }
-            self.shared.asks.park(rt, low_half(asks));
-        }
-    }
-
     /// Ends `look_up_all`: no further host is looked up.
     pub fn end(&self) {
         self.shared.is_ended.store(true, Ordering::SeqCst);
         self.wake_resolver();
-    }
-
-    fn has_ended(&self) -> bool {
-        self.shared.is_ended.load(Ordering::SeqCst)
-    }
-
-    /// Looks up a host if its look-up is requested.
-    fn look_up_asked<R: IoRuntime>(&self, rt: &R, host: &HostEntry) {
-        if !host.state.lock(rt).is_asked() {
-            return;
-        }
-        let found = ResolvedAddresses::look_up(rt, host.name.as_str());
-        let found = found.unwrap_or(ResolvedAddresses::none());
-        host.state.lock(rt).answer(found);
-        self.shared.answers.fetch_add(1, Ordering::SeqCst);
-        self.shared.answers.wake_all();
     }
 
     /// The host with this name.
@@ -240,7 +207,7 @@ impl HostEntry {
 }
 
 /// The low half of a counter, on which a thread waits.
-fn low_half(number: u64) -> u32 {
+pub(crate) fn low_half(number: u64) -> u32 {
     (number % LOW_HALF) as u32
 }
 
@@ -254,13 +221,13 @@ fn name_in(address: &str) -> Option<&str> {
     }
 }
 
-/// Adds a host with this name, unless there is one.
-fn add(alloc: Global, hosts: &mut Vec<HostEntry>, name: &str) -> Result<(), NoMemory> {
-    if hosts.iter().any(|host| host.name.as_str() == name) {
-        return Ok(());
+/// The index of the host with this name, which is added unless there is one.
+fn add(alloc: Global, hosts: &mut Vec<HostEntry>, name: &str) -> Result<usize, NoMemory> {
+    if let Some(place) = hosts.iter().position(|host| host.name.as_str() == name) {
+        return Ok(place);
     }
     let name = String::from_str(alloc, name)?;
     let state = Mutex::new(HostState::new());
     hosts.push(HostEntry { name, state })?;
-    Ok(())
+    Ok(hosts.len() - 1)
 }

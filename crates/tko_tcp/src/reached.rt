@@ -1,4 +1,5 @@
-//! Where a server was reached last, for all that connect to it.
+//! The servers at hosts with a name, and where each was reached last.
+ghost use Rattle.std.specs.Prelude.{◌≡◌, ◌==◌, if◌then◌else◌, None, Some};
 
 use std::alloc::{AllocError, Global};
 use std::sync::atomic::{AtomicU64, Ordering};
@@ -8,15 +9,27 @@ use std::sync::atomic::{AtomicU64, Ordering};
 #[derive(Drop)]
 pub(crate) struct ReachedServer {
     address: String,
+    /// Its index in the configuration.
+    number: usize,
+    /// The index of its host in `Names`.
+    host: usize,
     /// One more than the place of that address; 0 before the first connection.
     reached: AtomicU64,
 }
 
 impl ReachedServer {
-    /// The server with this address, to which no connection was made yet.
-    pub(crate) fn new(alloc: Global, address: &str) -> Result<ReachedServer, AllocError> {
+    /// The server with this address, this index in the configuration and this host, to which no
+    /// connection was made yet.
+    pub(crate) fn new(
+        alloc: Global,
+        address: &str,
+        number: usize,
+        host: usize,
+    ) -> Result<ReachedServer, AllocError> {
         Ok(ReachedServer {
             address: String::from_str(alloc, address)?,
+            number,
+            host,
             reached: AtomicU64::new(0),
         })
     }
@@ -24,6 +37,17 @@ impl ReachedServer {
     /// Whether this is its address.
     pub(crate) fn is_at(&self, address: &str) -> bool {
         self.address.as_str() == address
+    }
+
+    /// Its index in the configuration, if this is its host.
+    pub(crate) fn number_at(&self, host: usize) -> Option<usize>
+        ensures { result ≡ (if self.now.host == host then Some self.now.number else None) }
+    {
+        if self.host == host {
+            Some(self.number)
+        } else {
+            None
+        }
     }
 
     /// The place of the address at which a connection was made last.

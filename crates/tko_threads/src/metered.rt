@@ -7,7 +7,7 @@ use std::marker::Model;
 use std::sync::Wait;
 use std::sync::atomic::{AtomicU64, Ordering};
 use tko_bytes::NoMemory;
-use tko_events::WorkerLog;
+use tko_events::{Log, WorkerLog};
 use tko_io::IoRuntime;
 use tko_metrics::{Ending, Increase, WorkerLoad};
 use tko_model::{Counts, Kind, Reply};
@@ -77,6 +77,11 @@ impl<'r> Metered<'r> {
     pub fn refuse_client(&self) {
         self.log.log().count_session(true);
         self.log.log().meter().drop_client();
+    }
+
+    /// The log that has the sum of the sessions of all workers.
+    pub fn log(&self) -> &Log {
+        self.log.log()
     }
 
     /// Its worker is event-driven, and this is its load now.
