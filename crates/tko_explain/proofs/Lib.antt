@@ -1,2 +1,3 @@
 pub mod NumberLemmas
+mod PointLemmas
 pub mod ReportLemmas

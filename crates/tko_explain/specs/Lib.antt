@@ -1,4 +1,5 @@
 pub mod Parts
+pub mod Placing
 pub mod Printing
 pub mod Reasons
 pub mod Repeats

@@ -5,10 +5,12 @@
 #![tactic(auto)]
 
 mod parts;
+mod placing;
 mod printing;
 mod reasons;
 mod repeats;
 mod reporting;
+mod rings;
 mod warnings;
 
 pub use reasons::reason;

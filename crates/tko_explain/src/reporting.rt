@@ -3,15 +3,18 @@ ghost use Rattle.std.specs.Prelude.{◌≡◌, ◌++◌, IfOk, IfErr, OnOk, map,
 ghost use Rattle.std.specs.List.{position};
 ghost use Rattle.std.specs.Str.{bytes_eq};
 ghost use Rattle.serde_json.specs.View.{items_view, view};
-ghost use Rattle.tko_explain.specs.Reports.{IsReport, addresses_text, children_text, config_text, expiry_text, limit_text, report_text, routed_keys_text, targets_text, values_note};
+ghost use Rattle.tko_explain.specs.Reports.{IsReport, addresses_text, child_text, children_text, config_text, expiry_text, limit_text, report_text, rings_text, routed_keys_text, targets_text, values_note};
 ghost use Rattle.tko_pools.specs.Configs.{Refuses, child_of};
-ghost use Rattle.tko_pools.specs.Json.{texts_of};
+ghost use Rattle.tko_explain.specs.Parts.{pool_names_of};
+ghost use Rattle.tko_pools.specs.Json.{servers_named, texts_of};
 ghost use Rattle.tko_pools.specs.Numbering.{number_in};
 ghost use Rattle.tko_pools.specs.SoftLimits.{soft_limit_named};
 
 use crate::parts::{list_in, names_in};
+use crate::placing::append_placement;
 use crate::printing::append_named;
-use crate::repeats::{append_repeats, key_text};
+use crate::repeats::{append_repeats, key_text, texts_of};
+use crate::rings::append_ring;
 use crate::warnings::append_warnings;
 use serde_json::Value;
 use std::alloc::Global;
@@ -22,10 +25,10 @@ use tko_pools::{Config, ConfigFault, pools_in, soft_limit_named, text_of};
 const VALUES_NOTE: &[u8] =
     b"note: no server may hold a value above 1 MiB (memcached -I above 1m): it would be marked\n";
 
-/// The servers by their numbers, the pools of the route with the numbers of their servers and with
-/// their soft limits, the greatest expiry after the first target, the targets of each of the keys,
-/// a warning for whatever has no effect or is named twice, and what no configuration tells of its
-/// servers, a line each.
+/// The servers by their numbers, the pools of the route with the numbers of their servers, their
+/// soft limits and how they spread keys, the greatest expiry after the first target, the targets of
+/// each of the keys, a warning for whatever has no effect or is named twice and for servers that
+/// have no point of their own, and what no configuration tells of its servers, a line each.
 pub fn report(alloc: Global, json: &str, keys: &[String]) -> Result<Vec<u8>, ConfigFault>
     ensures ok { IfOk result (λ text. IsReport json.now (map string_bytes keys.now) text.items) }
     ensures err { IfErr result (λ fault. Refuses json.now fault) }
@@ -63,6 +66,7 @@ fn report_of(
     append_targets(alloc, &mut out, config, keys)?;
     append_warnings(alloc, &mut out, root)?;
     append_repeats(alloc, &mut out, root)?;
+    append_rings(alloc, &mut out, root, pools, config)?;
     out.extend_from_slice(key_text.as_bytes())?;
     out.extend_from_slice(VALUES_NOTE)?;
     Ok(out)
@@ -81,7 +85,7 @@ fn append_config(
 {
     let names = names_in(alloc, root)?;
     append_servers(out, config.addresses())?;
-    append_children(alloc, out, config.addresses(), pools, &names)?;
+    append_children(alloc, out, config, pools, &names)?;
     Ok(())
 }
 
@@ -124,19 +128,84 @@ fn append_servers(out: &mut Vec<u8>, addresses: &[String]) -> Result<(), NoMemor
 fn append_children(
     alloc: Global,
     out: &mut Vec<u8>,
-    addresses: &[String],
+    config: &Config,
     pools: &Value,
     names: &[&str],
 ) -> Result<(), NoMemory>
-    ensures { OnOk result (out.new.items ≡ out.old.items ++ children_text
-        (map string_bytes addresses.now) (view pools.now) (map (λ name. name.now) names.now)) }
+    ensures { OnOk result (out.new.items ≡ out.old.items
+        ++ children_text config.now (view pools.now) 0 (map (λ name. name.now) names.now)) }
 {
-    for name in names {
-        let numbers = numbers_of(alloc, addresses, pools, name)?;
-        append_named(alloc, out, "pool ", name, &numbers)?;
-        append_limit(alloc, out, pools, name)?;
+    for (place, name) in names.iter().enumerate() {
+        append_child(alloc, out, config, pools, place, name)?;
     }
     Ok(())
+}
+
+/// Appends what is said of the child at this place, the pool of a name.
+#[tactic(auto, unfolding(crate::specs::Reports::child_text))]
+fn append_child(
+    alloc: Global,
+    out: &mut Vec<u8>,
+    config: &Config,
+    pools: &Value,
+    place: usize,
+    name: &str,
+) -> Result<(), NoMemory>
+    ensures { OnOk result (out.new.items
+        ≡ out.old.items ++ child_text config.now (view pools.now) place name.now) }
+{
+    let numbers = numbers_of(alloc, config.addresses(), pools, name)?;
+    append_named(alloc, out, "pool ", name, &numbers)?;
+    append_limit(alloc, out, pools, name)?;
+    append_placement(alloc, out, name, pools.get(name), config.ring(place))?;
+    Ok(())
+}
+
+/// Appends what is to be known of the rings of the pools of the route.
+fn append_rings(
+    alloc: Global,
+    out: &mut Vec<u8>,
+    root: &Value,
+    pools: &Value,
+    config: &Config,
+) -> Result<(), NoMemory>
+    ensures { OnOk result (out.new.items ≡ out.old.items
+        ++ rings_text config.now (view pools.now) 0 (pool_names_of (view root.now))) }
+{
+    let names = names_in(alloc, root)?;
+    append_rings_of(alloc, out, config, pools, &names)
+}
+
+fn append_rings_of(
+    alloc: Global,
+    out: &mut Vec<u8>,
+    config: &Config,
+    pools: &Value,
+    names: &[&str],
+) -> Result<(), NoMemory>
+    ensures { OnOk result (out.new.items ≡ out.old.items
+        ++ rings_text config.now (view pools.now) 0 (map (λ name. name.now) names.now)) }
+{
+    for (place, name) in names.iter().enumerate() {
+        let addresses = addresses_named(alloc, pools, name)?;
+        append_ring(alloc, out, name, &addresses, config.ring(place))?;
+    }
+    Ok(())
+}
+
+/// The addresses in the list of the pool of a name.
+fn addresses_named<'a>(
+    alloc: Global,
+    pools: &'a Value,
+    name: &str,
+) -> Result<Vec<&'a str>, NoMemory>
+    ensures { IfOk result (λ addresses. map (λ address. address.now) addresses.items
+        ≡ servers_named (view pools.now) name.now) }
+{
+    match pools.get(name) {
+        Some(pool) => texts_of(alloc, list_in("servers", pool)),
+        None => Ok(Vec::new(alloc)),
+    }
 }
 
 /// Appends the soft limit of the pool of a name, if it has one.
