@@ -33,6 +33,8 @@ config_refused options json (config_fault.Address text) given r =
     flawed options json (config_fault.Address text) given r refl
 config_refused options json (config_fault.SoftLimit name) given r =
     flawed options json (config_fault.SoftLimit name) given r refl
+config_refused options json (config_fault.PoolKey key name) given r =
+    flawed options json (config_fault.PoolKey key name) given r refl
 config_refused options json config_fault.Route given r = flawed options json config_fault.Route given r refl
 config_refused options json (config_fault.NoSuchPool name) given r =
     flawed options json (config_fault.NoSuchPool name) given r refl

@@ -12,6 +12,7 @@ use Rattle.tko_session.specs.declared.fault.SessionFault.{SessionFault}
 use Rattle.tko_session.specs.declared.fault.SessionFault.TheVariants as session_fault
 use Rattle.tko_pools.specs.declared.fault.ConfigFault.{ConfigFault}
 use Rattle.tko_pools.specs.declared.fault.ConfigFault.TheVariants as config_fault
+use Rattle.tko_pools.specs.PoolKeys.{pool_key_word}
 use Rattle.tko_commands.specs.declared.fault.Fault.{Fault}
 use Rattle.tko_commands.specs.declared.fault.Fault.TheVariants as fault
 use Rattle.tko_commands.specs.declared.listen_fault.ListenFault.{ListenFault}
@@ -38,6 +39,7 @@ config_name config_fault.NoPools = codes "no-pools"
 config_name (config_fault.EmptyPool name) = codes "empty-pool"
 config_name (config_fault.Address text) = codes "address"
 config_name (config_fault.SoftLimit name) = codes "soft-limit"
+config_name (config_fault.PoolKey key name) = pool_key_word key
 config_name config_fault.Route = codes "route"
 config_name (config_fault.NoSuchPool name) = codes "no-such-pool"
 config_name config_fault.TooManyServers = codes "too-many-servers"
@@ -77,6 +79,7 @@ fault_of_config config_fault.NoPools = fault.Config config_fault.NoPools
 fault_of_config (config_fault.EmptyPool name) = fault.Config (config_fault.EmptyPool name)
 fault_of_config (config_fault.Address text) = fault.Config (config_fault.Address text)
 fault_of_config (config_fault.SoftLimit name) = fault.Config (config_fault.SoftLimit name)
+fault_of_config (config_fault.PoolKey key name) = fault.Config (config_fault.PoolKey key name)
 fault_of_config config_fault.Route = fault.Config config_fault.Route
 fault_of_config (config_fault.NoSuchPool name) = fault.Config (config_fault.NoSuchPool name)
 fault_of_config config_fault.TooManyServers = fault.Config config_fault.TooManyServers

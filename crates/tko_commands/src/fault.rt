@@ -95,6 +95,7 @@ fn config_name(cause: &ConfigFault) -> &'static str
         ConfigFault::EmptyPool(_) => "empty-pool",
         ConfigFault::Address(_) => "address",
         ConfigFault::SoftLimit(_) => "soft-limit",
+        ConfigFault::PoolKey(key, _) => key.word(),
         ConfigFault::Route => "route",
         ConfigFault::NoSuchPool(_) => "no-such-pool",
         ConfigFault::TooManyServers => "too-many-servers",

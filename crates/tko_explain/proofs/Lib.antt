@@ -1,3 +1,4 @@
 pub mod NumberLemmas
 pub mod OddLemmas
+mod PointLemmas
 pub mod ReportLemmas

@@ -4,12 +4,12 @@ use Rattle.serde_json.specs.Data.{Data}
 use Rattle.serde_json.specs.Read.{read}
 use Rattle.tko_pools.specs.Configs.{Configuration, IsMeaning, IsRoot, Means}
 use Rattle.tko_pools.specs.Json.{pools_in}
-use Rattle.tko_explain.specs.Reports.{AreWarnings, AreWarningsOf, IsReport, report_text, values_note}
+use Rattle.tko_explain.specs.Reports.{AreWarningsOf, IsReport, report_text, values_note}
 
 -- a text has one root
 pub is_report : (json : List ℕ) (keys : List (List ℕ)) (printed : List ℕ) (root pools : Data) (config : Configuration)
     (warnings : List ℕ) → Means json config → read json ≡ Some root → pools_in root ≡ Some pools
-    → AreWarningsOf json root config warnings
+    → AreWarningsOf json root pools config warnings
     → printed ≡ report_text root pools config keys ++ warnings ++ values_note
     → IsReport json keys printed
 is_report json keys printed root pools config warnings means reads has warned prints =
@@ -25,17 +25,4 @@ is_report json keys printed root pools config warnings means reads has warned pr
       warnings = warnings;
       warned = warned;
       prints = prints;
-    }
-
-pub are_warnings : (json text : List ℕ) (root : Data) (config : Configuration) → Means json config
-    → read json ≡ Some root → AreWarningsOf json root config text → AreWarnings json text
-are_warnings json text root config means reads warned =
-    let both : Some means.root ≡ Some root = sym means.is_root.json ∙ reads in
-    let same : means.root ≡ root = cc in
-    record {
-      root = root;
-      config = config;
-      is_root = subst (λ it. IsRoot json it) same means.is_root;
-      meaning = subst (λ it. IsMeaning it config) same means.meaning;
-      are = warned;
     }

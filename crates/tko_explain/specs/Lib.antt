@@ -1,5 +1,6 @@
 pub mod OddAddresses
 pub mod Parts
+pub mod Placing
 pub mod Printing
 pub mod Reasons
 pub mod Repeats

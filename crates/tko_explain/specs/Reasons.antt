@@ -10,6 +10,8 @@ use Rattle.tko_pools.specs.Addresses.{is_address}
 use Rattle.tko_pools.specs.Json.{Pool, child_name, pools_of, text_of_value}
 use Rattle.tko_pools.specs.declared.fault.ConfigFault.{ConfigFault}
 use Rattle.tko_pools.specs.declared.fault.ConfigFault.TheVariants as fault
+use Rattle.tko_pools.specs.declared.pool_key.PoolKey.{PoolKey}
+use Rattle.tko_pools.specs.declared.pool_key.PoolKey.TheVariants as key
 use Rattle.tko_explain.specs.Parts.{list_in, members_in}
 
 -- the place of the first text that is no address, counted from 1
@@ -70,6 +72,23 @@ route_text (Some (array items)) = codes "the route is neither a text nor an obje
 route_text (Some (string text)) = codes "the route is a text, but not PoolRoute|<pool>"
 route_text (Some (object members)) = object_text (object members)
 
+-- what is wrong with a key of a pool that says how it spreads keys
+unfoldable pub key_flaw : PoolKey → List ℕ
+key_flaw key.Distribution =
+    codes " has a distribution that is none of modula, ketama and consistent"
+key_flaw key.Hash =
+    codes " has a hash that is none of fnv1a, md5, fnv1a_64, fnv1a_32, fnv1_64, fnv1_32, "
+    ++ codes "one_at_a_time, murmur and crc32a"
+key_flaw key.HashTag = codes " has a hash_tag that is no text of two bytes"
+key_flaw key.UnhashedPrefix =
+    codes " has an unhashed_prefix that is no text of 1 to 250 bytes, or a hash_tag beside it"
+key_flaw key.Weights =
+    codes " has weights without ketama, or not a whole number of at least 1 for each server, "
+    ++ codes "together at most 16777216"
+key_flaw key.Names =
+    codes " has names with modula, or not 1 to 255 bytes of printable ASCII for each server, "
+    ++ codes "all different (by default the name is the address)"
+
 -- what is wrong with this object, as a fault tells it
 abbrev pub flaw_text : Data → ConfigFault → List ℕ
 flaw_text root fault.Json = codes "the JSON is no object"
@@ -81,6 +100,8 @@ flaw_text root (fault.Address text) =
 flaw_text root (fault.SoftLimit name) =
     codes "pool " ++ quoted (string_bytes name)
     ++ codes " has a soft_limit that is no whole number from 0 to 256"
+flaw_text root (fault.PoolKey at name) =
+    codes "pool " ++ quoted (string_bytes name) ++ key_flaw at
 flaw_text root fault.Route = route_text (get (codes "route") root)
 flaw_text root (fault.NoSuchPool name) =
     codes "the route names pool " ++ quoted (string_bytes name) ++ codes ", which is not there"

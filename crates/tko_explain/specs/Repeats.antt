@@ -5,7 +5,8 @@ use Rattle.json.specs.Print.{quoted}
 use Rattle.json.specs.Strict.{HasUniqueKeys}
 use Rattle.serde_json.specs.Data.{Data, Members, no_members, member}
 use Rattle.tko_explain.specs.Parts.{list_in, pool_names_of}
-use Rattle.tko_explain.specs.Warnings.{is_in_names, members_at}
+use Rattle.tko_explain.specs.Warnings.{members_at}
+use Rattle.tko_pools.specs.RingServers.{is_in_names}
 
 -- a name, where it is among these that follow it
 abbrev pub name_again : List ℕ → List ℕ → List (List ℕ) → List ℕ → List ℕ

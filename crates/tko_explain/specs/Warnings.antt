@@ -1,24 +1,21 @@
 -- What in a configuration has no effect.
-use Rattle.std.specs.Prelude.{ℕ, List, [], ◌∷◌, ◌++◌, Bool, if◌then◌else◌, codes, option_map, unwrap_or}
-use Rattle.std.specs.List.{list_any}
-use Rattle.std.specs.Str.{bytes_eq}
+use Rattle.std.specs.Prelude.{ℕ, List, [], ◌∷◌, ◌++◌, if◌then◌else◌, codes, option_map, unwrap_or}
 use Rattle.json.specs.Print.{quoted}
 use Rattle.serde_json.specs.Data.{Data, Members, no_members, member}
 use Rattle.serde_json.specs.Find.{get}
 use Rattle.tko_explain.specs.Parts.{members_in, pool_names_of}
+use Rattle.tko_pools.specs.RingServers.{is_in_names}
 
 -- the keys that are read, of the whole, of a pool and of a route
 abbrev pub root_keys : List (List ℕ)
 root_keys = codes "pools" ∷ codes "route" ∷ []
 
 abbrev pub pool_keys : List (List ℕ)
-pool_keys = codes "servers" ∷ codes "soft_limit" ∷ []
+pool_keys = codes "servers" ∷ codes "soft_limit" ∷ codes "distribution" ∷ codes "hash"
+    ∷ codes "hash_tag" ∷ codes "unhashed_prefix" ∷ codes "weights" ∷ codes "names" ∷ []
 
 abbrev pub route_keys : List (List ℕ)
 route_keys = codes "type" ∷ codes "children" ∷ codes "failover_exptime" ∷ []
-
-abbrev pub is_in_names : List (List ℕ) → List ℕ → Bool
-is_in_names names name = list_any (bytes_eq name) names
 
 -- a key in this place, unless it is one of those that are read
 abbrev pub key_text : List ℕ → List (List ℕ) → List ℕ → List ℕ

@@ -2,7 +2,7 @@
 //! it.
 ghost use Rattle.std.specs.Prelude.{◌≡◌, ◌++◌, [], Some, IfOk, OnOk, option_map};
 ghost use Rattle.serde_json.specs.View.{items_view, members_view, view};
-ghost use Rattle.tko_explain.specs.Reasons.{IsReasonOf, address_text, are_children, bad_address_place, bad_address_text, flaw_text, is_child, is_failover_kind, object_text, place_or, reason_line, root_place_text, route_text};
+ghost use Rattle.tko_explain.specs.Reasons.{IsReasonOf, address_text, are_children, bad_address_place, bad_address_text, flaw_text, is_child, key_flaw, is_failover_kind, object_text, place_or, reason_line, root_place_text, route_text};
 ghost use Rattle.tko_pools.specs.Json.{pools_of, texts_of};
 
 use crate::parts::list_in;
@@ -11,7 +11,7 @@ use serde_json::{Map, Value};
 use std::alloc::Global;
 use tko_bytes::NoMemory;
 use tko_model::append_number;
-use tko_pools::{ConfigFault, child_name, is_address, text_of};
+use tko_pools::{ConfigFault, PoolKey, child_name, is_address, text_of};
 
 /// How a text begins that some editors save as "UTF-8 with BOM".
 const BYTE_ORDER_MARK: [u8; 3] = [0xef, 0xbb, 0xbf];
@@ -68,6 +68,10 @@ fn flaw_words(alloc: Global, root: &Value, fault: &ConfigFault) -> Result<Vec<u8
             let end = b" has a soft_limit that is no whole number from 0 to 256";
             append_around(alloc, &mut out, b"pool ", name.as_str(), b"", end)?;
         }
+        ConfigFault::PoolKey(key, name) => {
+            let end = key_flaw(*key).as_bytes();
+            append_around(alloc, &mut out, b"pool ", name.as_str(), b"", end)?;
+        }
         ConfigFault::Route => out.extend_from_slice(route_text(root.get("route")).as_bytes())?,
         ConfigFault::NoSuchPool(name) => {
             let (before, end) = (b"the route names pool ", b", which is not there");
@@ -79,6 +83,29 @@ fn flaw_words(alloc: Global, root: &Value, fault: &ConfigFault) -> Result<Vec<u8
         ConfigFault::Memory => out.extend_from_slice(b"memory ran out")?,
     }
     Ok(out)
+}
+
+/// What is wrong with a key of a pool that says how it spreads keys.
+#[tactic(auto, unfolding(crate::specs::Reasons::key_flaw))]
+fn key_flaw(key: PoolKey) -> &'static str
+    ensures { result.now ≡ key_flaw key }
+{
+    match key {
+        PoolKey::Distribution =>
+            " has a distribution that is none of modula, ketama and consistent",
+        PoolKey::Hash =>
+            " has a hash that is none of fnv1a, md5, fnv1a_64, fnv1a_32, fnv1_64, fnv1_32, \
+             one_at_a_time, murmur and crc32a",
+        PoolKey::HashTag => " has a hash_tag that is no text of two bytes",
+        PoolKey::UnhashedPrefix =>
+            " has an unhashed_prefix that is no text of 1 to 250 bytes, or a hash_tag beside it",
+        PoolKey::Weights =>
+            " has weights without ketama, or not a whole number of at least 1 for each server, \
+             together at most 16777216",
+        PoolKey::Names =>
+            " has names with modula, or not 1 to 255 bytes of printable ASCII for each server, \
+             all different (by default the name is the address)",
+    }
 }
 
 /// Appends where the first item of a pool's list stands that is no address.

@@ -63,7 +63,7 @@ fn append_servers(
 }
 
 /// The texts of a list.
-fn texts_of(alloc: Global, list: &[Value]) -> Result<Vec<&str>, NoMemory>
+pub(crate) fn texts_of(alloc: Global, list: &[Value]) -> Result<Vec<&str>, NoMemory>
     ensures { IfOk result (λ texts.
         map (λ text. text.now) texts.items ≡ texts_of (items_view list.now)) }
 {

@@ -3,16 +3,19 @@ ghost use Rattle.std.specs.Prelude.{◌≡◌, ◌++◌, IfOk, IfErr, OnOk, map,
 ghost use Rattle.std.specs.List.{position};
 ghost use Rattle.std.specs.Str.{bytes_eq};
 ghost use Rattle.serde_json.specs.View.{items_view, view};
-ghost use Rattle.tko_explain.specs.Reports.{AreWarnings, AreWarningsOf, IsReport, addresses_text, children_text, config_text, expiry_text, limit_text, report_text, routed_keys_text, targets_text, values_note};
-ghost use Rattle.tko_pools.specs.Configs.{Means, Refuses, child_of};
-ghost use Rattle.tko_pools.specs.Json.{texts_of};
+ghost use Rattle.tko_explain.specs.Reports.{AreWarningsOf, IsReport, addresses_text, child_text, children_text, config_text, expiry_text, limit_text, report_text, rings_text, routed_keys_text, targets_text, values_note};
+ghost use Rattle.tko_pools.specs.Configs.{Refuses, child_of};
+ghost use Rattle.tko_explain.specs.Parts.{pool_names_of};
+ghost use Rattle.tko_pools.specs.Json.{servers_named, texts_of};
 ghost use Rattle.tko_pools.specs.Numbering.{number_in};
 ghost use Rattle.tko_pools.specs.SoftLimits.{soft_limit_named};
 
 use crate::odd_addresses::odd_addresses;
 use crate::parts::{list_in, names_in};
+use crate::placing::append_placement;
 use crate::printing::append_named;
-use crate::repeats::{append_repeats, key_text};
+use crate::repeats::{append_repeats, key_text, texts_of};
+use crate::rings::append_ring;
 use crate::warnings::append_warnings;
 use serde_json::Value;
 use std::alloc::Global;
@@ -23,9 +26,9 @@ use tko_pools::{Config, ConfigFault, pools_in, soft_limit_named, text_of};
 const VALUES_NOTE: &[u8] =
     b"note: no server may hold a value above 1 MiB (memcached -I above 1m): it would be marked\n";
 
-/// The servers by their numbers, the pools of the route with the numbers of their servers and with
-/// their soft limits, the greatest expiry after the first target, the targets of each of the keys,
-/// the warnings, and what no configuration tells of its servers, a line each.
+/// The servers by their numbers, the pools of the route with the numbers of their servers, their
+/// soft limits and how they spread keys, the greatest expiry after the first target, the targets of
+/// each of the keys, the warnings, and what no configuration tells of its servers, a line each.
 pub fn report(alloc: Global, json: &str, keys: &[String]) -> Result<Vec<u8>, ConfigFault>
     ensures ok { IfOk result (λ text. IsReport json.now (map string_bytes keys.now) text.items) }
     ensures err { IfErr result (λ fault. Refuses json.now fault) }
@@ -37,7 +40,7 @@ pub fn report(alloc: Global, json: &str, keys: &[String]) -> Result<Vec<u8>, Con
     let Some(pools) = pools_in(&root) else {
         return Err(ConfigFault::Memory);
     };
-    let Ok(warnings) = warnings_over(alloc, json, &root, &config) else {
+    let Ok(warnings) = warnings_over(alloc, json, &root, pools, &config) else {
         return Err(ConfigFault::Memory);
     };
     match report_of(alloc, &root, pools, &config, keys, &warnings) {
@@ -47,33 +50,24 @@ pub fn report(alloc: Global, json: &str, keys: &[String]) -> Result<Vec<u8>, Con
 }
 
 /// What is warned of in this text, which means the configuration: a line for each key that is not
-/// read, for whatever is named twice, and for each address whose host and port may not be the ones
-/// that were meant.
-pub fn warning_lines(alloc: Global, json: &str, config: &Config) -> Result<Vec<u8>, NoMemory>
-    requires { Means json.now config.now }
-    ensures { IfOk result (λ text. AreWarnings json.now text.items) }
-{
-    let Ok(root) = Value::from_str(alloc, json) else {
-        return Err(NoMemory);
-    };
-    warnings_over(alloc, json, &root, config)
-}
-
-/// The same over the value of the text.
+/// read, for whatever is named twice, for each address whose host and port may not be the ones that
+/// were meant, and for servers that have no point of their own.
 fn warnings_over(
     alloc: Global,
     json: &str,
     root: &Value,
+    pools: &Value,
     config: &Config,
 ) -> Result<Vec<u8>, NoMemory>
-    ensures { IfOk result (λ text.
-        AreWarningsOf json.now (view root.now) config.now text.items) }
+    ensures { IfOk result (λ text. AreWarningsOf json.now (view root.now) (view pools.now)
+        config.now text.items) }
 {
     let mut out = Vec::new(alloc);
     append_warnings(alloc, &mut out, root)?;
     append_repeats(alloc, &mut out, root)?;
     let odd = odd_addresses(alloc, config.addresses())?;
     out.extend_from_slice(&odd)?;
+    append_rings(alloc, &mut out, root, pools, config)?;
     out.extend_from_slice(key_text(alloc, json)?.as_bytes())?;
     Ok(out)
 }
@@ -111,7 +105,7 @@ fn append_config(
 {
     let names = names_in(alloc, root)?;
     append_servers(out, config.addresses())?;
-    append_children(alloc, out, config.addresses(), pools, &names)?;
+    append_children(alloc, out, config, pools, &names)?;
     Ok(())
 }
 
@@ -154,19 +148,84 @@ fn append_servers(out: &mut Vec<u8>, addresses: &[String]) -> Result<(), NoMemor
 fn append_children(
     alloc: Global,
     out: &mut Vec<u8>,
-    addresses: &[String],
+    config: &Config,
     pools: &Value,
     names: &[&str],
 ) -> Result<(), NoMemory>
-    ensures { OnOk result (out.new.items ≡ out.old.items ++ children_text
-        (map string_bytes addresses.now) (view pools.now) (map (λ name. name.now) names.now)) }
+    ensures { OnOk result (out.new.items ≡ out.old.items
+        ++ children_text config.now (view pools.now) 0 (map (λ name. name.now) names.now)) }
 {
-    for name in names {
-        let numbers = numbers_of(alloc, addresses, pools, name)?;
-        append_named(alloc, out, "pool ", name, &numbers)?;
-        append_limit(alloc, out, pools, name)?;
+    for (place, name) in names.iter().enumerate() {
+        append_child(alloc, out, config, pools, place, name)?;
     }
     Ok(())
+}
+
+/// Appends what is said of the child at this place, the pool of a name.
+#[tactic(auto, unfolding(crate::specs::Reports::child_text))]
+fn append_child(
+    alloc: Global,
+    out: &mut Vec<u8>,
+    config: &Config,
+    pools: &Value,
+    place: usize,
+    name: &str,
+) -> Result<(), NoMemory>
+    ensures { OnOk result (out.new.items
+        ≡ out.old.items ++ child_text config.now (view pools.now) place name.now) }
+{
+    let numbers = numbers_of(alloc, config.addresses(), pools, name)?;
+    append_named(alloc, out, "pool ", name, &numbers)?;
+    append_limit(alloc, out, pools, name)?;
+    append_placement(alloc, out, name, pools.get(name), config.ring(place))?;
+    Ok(())
+}
+
+/// Appends what is to be known of the rings of the pools of the route.
+fn append_rings(
+    alloc: Global,
+    out: &mut Vec<u8>,
+    root: &Value,
+    pools: &Value,
+    config: &Config,
+) -> Result<(), NoMemory>
+    ensures { OnOk result (out.new.items ≡ out.old.items
+        ++ rings_text config.now (view pools.now) 0 (pool_names_of (view root.now))) }
+{
+    let names = names_in(alloc, root)?;
+    append_rings_of(alloc, out, config, pools, &names)
+}
+
+fn append_rings_of(
+    alloc: Global,
+    out: &mut Vec<u8>,
+    config: &Config,
+    pools: &Value,
+    names: &[&str],
+) -> Result<(), NoMemory>
+    ensures { OnOk result (out.new.items ≡ out.old.items
+        ++ rings_text config.now (view pools.now) 0 (map (λ name. name.now) names.now)) }
+{
+    for (place, name) in names.iter().enumerate() {
+        let addresses = addresses_named(alloc, pools, name)?;
+        append_ring(alloc, out, name, &addresses, config.ring(place))?;
+    }
+    Ok(())
+}
+
+/// The addresses in the list of the pool of a name.
+fn addresses_named<'a>(
+    alloc: Global,
+    pools: &'a Value,
+    name: &str,
+) -> Result<Vec<&'a str>, NoMemory>
+    ensures { IfOk result (λ addresses. map (λ address. address.now) addresses.items
+        ≡ servers_named (view pools.now) name.now) }
+{
+    match pools.get(name) {
+        Some(pool) => texts_of(alloc, list_in("servers", pool)),
+        None => Ok(Vec::new(alloc)),
+    }
 }
 
 /// Appends the soft limit of the pool of a name, if it has one.

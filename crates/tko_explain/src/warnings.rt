@@ -3,7 +3,8 @@
 ghost use Rattle.std.specs.Prelude.{◌≡◌, ◌++◌, OnOk, map};
 ghost use Rattle.serde_json.specs.View.{members_view, view};
 ghost use Rattle.tko_explain.specs.Parts.{members_in};
-ghost use Rattle.tko_explain.specs.Warnings.{ignored_text, is_in_names, key_text, pool_keys, pool_place, pool_text, pools_text, unnamed_text, warnings_text};
+ghost use Rattle.tko_pools.specs.RingServers.{is_in_names};
+ghost use Rattle.tko_explain.specs.Warnings.{ignored_text, key_text, pool_keys, pool_place, pool_text, pools_text, unnamed_text, warnings_text};
 
 use crate::parts::names_in;
 use crate::printing::{append_around, quoted};
@@ -13,7 +14,16 @@ use tko_bytes::NoMemory;
 
 const ROOT_KEYS: [&str; 2] = ["pools", "route"];
 
-const POOL_KEYS: [&str; 2] = ["servers", "soft_limit"];
+const POOL_KEYS: [&str; 8] = [
+    "servers",
+    "soft_limit",
+    "distribution",
+    "hash",
+    "hash_tag",
+    "unhashed_prefix",
+    "weights",
+    "names",
+];
 
 const ROUTE_KEYS: [&str; 3] = ["type", "children", "failover_exptime"];
 

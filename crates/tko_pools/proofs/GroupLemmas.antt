@@ -5,7 +5,7 @@ use Rattle.std.specs.List.{filter, position, range_with_len}
 use Rattle.std.proofs.lemmas.Bool.{cases_Bool, eqb-true, ne_eqb}
 use Rattle.std.proofs.lemmas.List.{append-nil, length-map, map-id}
 use Rattle.std.proofs.lemmas.List.FromFn.{map-range_with_len_more, filter_of_map_range_with_len_more, length-range_with_len}
-use Rattle.tko_pools.specs.Groups.{first_child_with, first_place, is_number_in, owners_of, owning}
+use Rattle.tko_pools.specs.Groups.{first_child_with, is_number_in, owners_of, owning}
 use Rattle.tko_pools.proofs.NumberingLemmas.{position_map}
 
 -- the place of the first child, where its lists are those of values

@@ -1,31 +1,27 @@
 -- The configuration without pools.
 use Rattle.std.proofs.Common.{◌≡◌, ◌<◌, ◌≤◌, ℕ, zero, suc, ◌+◌, List, [], ◌∷◌, ◌++◌, length, map, refl, ap, sym, subst, ◌∙◌, arith}
 use Rattle.std.specs.List.{All, range_with_len}
-use Rattle.std.specs.Prelude.{◌%◌, Option, None, replicate, slice_index}
+use Rattle.std.specs.Prelude.{Option, None, replicate}
 use Rattle.std.proofs.Math.Nat.{mod-one}
-use Rattle.std.proofs.lemmas.List.{length-map, length-replicate, map-append}
+use Rattle.std.proofs.lemmas.List.{length-map, length-replicate}
 use Rattle.std.proofs.lemmas.List.Elements.{All-nil, All-cons}
 use Rattle.std.proofs.lemmas.List.FromFn.{map-range_with_len_more}
-use Rattle.tko_pools.specs.Configs.{Configuration, IsSoundConfig, chosen_by, in_order, numbers_below, targets_of}
-use Rattle.tko_pools.specs.Hash.{fnv1a_of}
+use Rattle.tko_pools.specs.Configs.{Configuration, IsSoundConfig, alone, in_order, numbers_below, targets_of}
+use Rattle.tko_pools.specs.Children.{Child, IsSoundChild, hash_by, key_target, targets_for}
 use Rattle.tko_model.specs.Limits.{max_servers}
 use Rattle.tko_pools.specs.Routes.{default_exptime}
 use Rattle.tko_pools.proofs.LimitLemmas.{IsSmall}
 
--- a child with one server
-abbrev alone : ℕ → List ℕ
-alone number = number ∷ []
-
 -- one more child
-pub children-more : {X : Type 0} (items : X → List ℕ) (count : ℕ) (children all : List X) (child : X)
-    → map items children ≡ map alone (numbers_below count) → items child ≡ alone count
-    → all ≡ children ++ child ∷ [] → map items all ≡ map alone (numbers_below (count + 1))
-children-more items count children all child before last e =
+pub children-more : (count : ℕ) (children all : List Child) (child : Child)
+    → children ≡ map alone (numbers_below count) → child ≡ alone count
+    → all ≡ children ++ child ∷ [] → all ≡ map alone (numbers_below (count + 1))
+children-more count children all child before last e =
     let more = map-range_with_len_more alone 0 count count (omega arith) in
-    rw (e, map-append items children (child ∷ []), before, last) (sym more)
+    rw (e, before, last) (sym more)
 
 -- the configuration is the one of these addresses
-pub in_order-made : {X : Type 0} (text : X → List ℕ) (texts : List X) (addresses children : List (List ℕ)) (groups : List ℕ) (limits : List (Option ℕ)) (count : ℕ)
+pub in_order-made : {X : Type 0} (text : X → List ℕ) (texts : List X) (addresses : List (List ℕ)) (children : List Child) (groups : List ℕ) (limits : List (Option ℕ)) (count : ℕ)
     → addresses ≡ map text texts → children ≡ map alone (numbers_below count)
     → groups ≡ replicate (length texts) 0 → limits ≡ None ∷ [] → count ≡ length texts
     → record {
@@ -39,32 +35,38 @@ in_order-made text texts addresses children groups limits count named numbered g
     rw (named, numbered, grouped, limited, counted, length-map texts text) refl
 
 -- the server of a child with one server
-chosen-alone : (hash : ℕ) (numbers : List ℕ) → chosen_by hash (map alone numbers) ≡ numbers
-chosen-alone hash [] = refl
-chosen-alone hash (number ∷ numbers) =
-    let first : slice_index (alone number) (hash % 1) ≡ number = rw (mod-one hash) refl in
-    ap (λ n. n ∷ chosen_by hash (map alone numbers)) first ∙ ap (λ ns. number ∷ ns) (chosen-alone hash numbers)
+targets-alone : (key numbers : List ℕ) → targets_for key (map alone numbers) ≡ numbers
+targets-alone key [] = refl
+targets-alone key (number ∷ numbers) =
+    let first : key_target key (alone number) ≡ number = rw (mod-one (hash_by (alone number) key)) refl in
+    ap (λ n. n ∷ targets_for key (map alone numbers)) first ∙ ap (λ ns. number ∷ ns) (targets-alone key numbers)
 
 -- every key has all servers as its targets, in order
 pub in_order-targets : {X : Type 0} (text : X → List ℕ) (texts : List X) (config : Configuration) (key : List ℕ)
     → config ≡ in_order (map text texts) → targets_of config key ≡ numbers_below (length texts)
+unfolding targets_of
 in_order-targets text texts config key made =
-    ap (λ (at : Configuration). targets_of at key) made
-    ∙ chosen-alone (fnv1a_of key) (numbers_below (length (map text texts)))
+    ap (λ (at : Configuration). targets_for key at.children) made
+    ∙ targets-alone key (numbers_below (length (map text texts)))
     ∙ ap numbers_below (length-map texts text)
 
-below : (start count bound : ℕ) → start + count ≤ bound
-    → All (λ child. All (λ number. number < bound) child) (map alone (range_with_len start count))
-below start zero bound within = All-nil (λ child. All (λ number. number < bound) child)
+abbrev Below : ℕ → Child → Type 0
+Below bound child = All (λ number. number < bound) child.servers
+
+below : (start count bound : ℕ) → start + count ≤ bound → All (Below bound) (map alone (range_with_len start count))
+below start zero bound within = All-nil (Below bound)
 below start (suc count) bound within =
-    All-cons (λ child. All (λ number. number < bound) child) (alone start) _
+    All-cons (Below bound) (alone start) _
     (All-cons (λ number. number < bound) start [] (omega (arith, within)) (All-nil (λ number. number < bound)))
     (below (start + 1) count bound (omega (arith, within)))
 
-filled : (numbers : List ℕ) → All (λ child. 0 < length child) (map alone numbers)
-filled [] = All-nil (λ child. 0 < length child)
-filled (number ∷ numbers) =
-    All-cons (λ child. 0 < length child) (alone number) (map alone numbers) (omega arith) (filled numbers)
+pub alone-sound : (number : ℕ) → IsSoundChild (alone number)
+alone-sound number = record { some = omega arith; ring = tt }
+
+each-sound : (numbers : List ℕ) → All IsSoundChild (map alone numbers)
+each-sound [] = All-nil IsSoundChild
+each-sound (number ∷ numbers) =
+    All-cons IsSoundChild (alone number) (map alone numbers) (alone-sound number) (each-sound numbers)
 
 one-group : (count : ℕ) → All (λ group. group < 1) (replicate count 0)
 one-group zero = All-nil (λ group. group < 1)
@@ -72,7 +74,7 @@ one-group (suc count) = All-cons (λ group. group < 1) 0 (replicate count 0) (om
 
 in_order-sound : (addresses : List (List ℕ)) → length addresses ≤ max_servers → IsSoundConfig (in_order addresses)
 in_order-sound addresses few = record {
-  children = filled (numbers_below (length addresses));
+  children = each-sound (numbers_below (length addresses));
   numbers = below 0 (length addresses) (length addresses) (omega arith);
   servers = few;
   groups = record {

@@ -4,11 +4,9 @@ use Rattle.std.specs.Prelude.{Some, None, is_some, not}
 use Rattle.std.specs.List.{All, flat_map, fold, position, position_or_len}
 use Rattle.std.specs.Str.{bytes_eq}
 use Rattle.std.proofs.lemmas.Bool.{cases_Bool, cases_lt, le-ltb, lt-ltb}
-use Rattle.std.proofs.lemmas.List.Elements.{All-nil, All-cons, All-head, All-tail, All-get_or}
+use Rattle.std.proofs.lemmas.List.Elements.{All-nil, All-cons, All-head, All-tail}
 use Rattle.std.proofs.lemmas.Slice.Eq.{bytes_eq-Decides}
-use Rattle.std.proofs.Math.Nat.{mod-lt, zero-lt-suc}
-use Rattle.std.specs.Prelude.{◌%◌, slice_index}
-use Rattle.tko_pools.specs.Configs.{chosen_by}
+use Rattle.std.proofs.Math.Nat.{zero-lt-suc}
 use Rattle.tko_pools.specs.Numbering.{number_in, with_address}
 
 -- the text is one of the addresses
@@ -123,18 +121,3 @@ all-unmap P f (x ∷ xs) h =
     xs
     (All-head P (f x) (map f xs) h)
     (all-unmap P f xs (All-tail P (f x) (map f xs) h))
-
--- a server of each child that is not empty is one of its numbers
-pub chosen-below : (hash count : ℕ) (children : List (List ℕ)) → All (λ child. 0 < length child) children
-    → All (λ child. All (λ number. number < count) child) children
-    → All (λ number. number < count) (chosen_by hash children)
-chosen-below hash count [] some below = All-nil (λ number. number < count)
-chosen-below hash count (child ∷ children) some below =
-    let inside = mod-lt hash (All-head (λ c. 0 < length c) child children some) in
-    let numbers = All-head (λ c. All (λ number. number < count) c) child children below in
-    All-cons
-    (λ number. number < count)
-    (slice_index child (hash % length child))
-    (chosen_by hash children)
-    (All-get_or (λ number. number < count) child (hash % length child) 0 inside numbers)
-    (chosen-below hash count children (All-tail (λ c. 0 < length c) child children some) (All-tail (λ c. All (λ number. number < count) c) child children below))

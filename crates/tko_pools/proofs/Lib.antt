@@ -1,3 +1,5 @@
+mod ChildLemmas
+mod FitLemmas
 mod GroupLemmas
 mod HashRows
 mod HeldLemmas
@@ -7,6 +9,7 @@ mod KnownLemmas
 mod LimitLemmas
 pub mod NumberingLemmas
 mod OwnerLemmas
+mod PlacedLemmas
 mod ReasonLemmas
 mod RouteLemmas
 mod SoundLemmas

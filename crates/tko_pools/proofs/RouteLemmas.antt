@@ -1,11 +1,11 @@
 -- A route has a child.
-use Rattle.std.proofs.Common.{◌≡◌, ◌<◌, ℕ, Bool, true, false, cond, List, [], ◌∷◌, length, map, refl, sym, subst, arith}
+use Rattle.std.proofs.Common.{◌≡◌, ◌<◌, ℕ, Bool, true, false, cond, List, [], ◌∷◌, length, subst}
 use Rattle.std.specs.Prelude.{◌==◌, Option, Some, None, codes, option_map, option_and_then}
 use Rattle.std.proofs.Math.Nat.{zero-lt-suc}
 use Rattle.serde_json.specs.Data.{Data, null, boolean, number, string, array, object, Items}
 use Rattle.serde_json.specs.Find.{as_array, get}
 use Rattle.tko_pools.specs.Json.{child_name, child_names, texts_of}
-use Rattle.tko_pools.specs.Routes.{RouteRead, failover_route, is_failover, exptime_in, listed_children, names_in, route_in, route_of, route_over, single_route}
+use Rattle.tko_pools.specs.Routes.{RouteRead, failover_route, is_failover, exptime_in, listed_children, names_in, route_in, route_of, route_over}
 
 abbrev HasChild : Option RouteRead → Type 0
 HasChild None = Unit {0}

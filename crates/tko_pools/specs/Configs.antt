@@ -1,13 +1,13 @@
 -- What a configuration is: the servers by their numbers, and each child's servers.
-use Rattle.std.specs.Prelude.{◌≡◌, ℕ, ◌%◌, ◌<◌, ◌≤◌, List, [], ◌∷◌, length, map, slice_index, get_or, replicate, All, Option, Some, None, IfSome, is_some, unwrap_or, true}
+use Rattle.std.specs.Prelude.{◌≡◌, ℕ, ◌<◌, ◌≤◌, List, [], ◌∷◌, length, map, get_or, replicate, All, Option, Some, None, IfSome, is_some, unwrap_or, true, slice_get, option_and_then}
 use Rattle.std.specs.List.{flat_map, range_with_len}
 use Rattle.std.specs.Str.{IsUtf8}
 use Rattle.serde_json.specs.Data.{Data}
-use Rattle.serde_json.specs.Find.{as_object}
+use Rattle.serde_json.specs.Find.{as_object, get}
 use Rattle.serde_json.specs.Read.{read}
 use Rattle.tko_pools.specs.Groups.{groups_in, places_in}
-use Rattle.tko_pools.specs.Hash.{fnv1a_of}
-use Rattle.tko_pools.specs.Json.{pools_in, servers_named}
+use Rattle.tko_pools.specs.Children.{AreChildren, AreTargets, Child, IsSoundChild, targets_for}
+use Rattle.tko_pools.specs.Json.{pools_in, servers_named, servers_of}
 use Rattle.tko_pools.specs.Numbering.{number_in, numbered}
 use Rattle.tko_pools.specs.declared.fault.ConfigFault.{ConfigFault}
 use Rattle.tko_pools.specs.declared.fault.ConfigFault.TheVariants as fault
@@ -15,13 +15,17 @@ use Rattle.tko_model.specs.Limits.{max_servers}
 use Rattle.tko_pools.specs.Reasons.{Reports, reason_of}
 use Rattle.tko_pools.specs.Routes.{RouteRead, default_exptime, route_in}
 use Rattle.tko_model.specs.Limits.{max_limit}
+use Rattle.tko_pools.specs.PlacementFlaws.{placement_flaw}
 use Rattle.tko_pools.specs.SoftLimits.{soft_limit_named}
+use Rattle.tko_ring.specs.declared.key_hash.KeyHash.TheVariants as hash
+use Rattle.tko_ring.specs.declared.point.Point.{Point}
+use Rattle.tko_ring.specs.declared.key_part.KeyPart.TheVariants as part
 
 pub record Configuration : Type 0 where
   -- the addresses in the order of their numbers
   pub addresses : List (List ℕ)
-  -- of each child the numbers of its servers
-  pub children : List (List ℕ)
+  -- the pools of the route
+  pub children : List Child
   -- the greatest expiry after the first target
   pub failover_exptime : ℕ
   -- of each server the number of its group
@@ -29,13 +33,17 @@ pub record Configuration : Type 0 where
   -- of each group the soft limit of its pool, where the pool has one
   pub soft_limits : List (Option ℕ)
 
--- of each child the server that a hash chooses
-abbrev pub chosen_by : ℕ → List (List ℕ) → List ℕ
-chosen_by hash children = map (λ child. slice_index child (hash % length child)) children
+-- the targets of a key: of each child the server that the key belongs to
+unfoldable pub targets_of : Configuration → List ℕ → List ℕ
+targets_of config key = targets_for key config.children
 
--- the targets of a key: of each child the server that the key's hash chooses
-abbrev pub targets_of : Configuration → List ℕ → List ℕ
-targets_of config key = chosen_by (fnv1a_of key) config.children
+-- the points of the child at this place, if it has a ring
+abbrev pub ring_at : Configuration → ℕ → Option (List Point)
+ring_at config place = option_and_then (λ child. child.ring) (slice_get config.children place)
+
+-- these are the targets of a key: of each child the server that owns the key
+abbrev pub AreOwners : Configuration → List ℕ → List ℕ → Type 0
+AreOwners config key targets = AreTargets key config.children targets
 
 -- each of these numbers is the number of a server
 abbrev pub AreServers : Configuration → List ℕ → Type 0
@@ -63,29 +71,59 @@ abbrev pub soft_limits_in : Data → List (List ℕ) → List (List ℕ) → ℕ
 soft_limits_in pools names children servers =
     soft_limits_at pools names (places_in children servers)
 
--- the configuration of these pools and this route
-abbrev pub configuration : Data → RouteRead → Configuration
-configuration pools route =
+-- the numbers of the servers of each child
+abbrev pub numbers_of : List Child → List (List ℕ)
+numbers_of children = map (λ child. child.servers) children
+
+-- the configuration of these pools and this route, which has these children
+abbrev pub configuration : Data → RouteRead → List Child → Configuration
+configuration pools route children =
     let addresses = addresses_of pools route.children in
-    let children = map (child_of addresses pools) route.children in
+    let numbers = numbers_of children in
     record {
       addresses = addresses;
       children = children;
       failover_exptime = route.failover_exptime;
-      groups = groups_in children (length addresses);
-      soft_limits = soft_limits_in pools route.children children (length addresses);
+      groups = groups_in numbers (length addresses);
+      soft_limits = soft_limits_in pools route.children numbers (length addresses);
     }
+
+-- a configuration is that of these pools and this route
+pub record IsConfiguration (pools : Data) (route : RouteRead) (config : Configuration) : Type 0 where
+  pub children :
+      AreChildren (addresses_of pools route.children) pools route.children config.children
+  pub is : config ≡ configuration pools route config.children
+
+-- a pool has a server, and says how it spreads keys
+pub record IsSoundPool (pool : Data) : Type 0 where
+  pub some : 0 < length (servers_of pool)
+  pub placed : placement_flaw pool ≡ None
+
+-- there is a pool of this name, and it is sound
+pub record IsSoundName (pools : Data) (name : List ℕ) : Type 0 where
+  pub pool : Data
+  pub named : get name pools ≡ Some pool
+  pub sound : IsSoundPool pool
 
 -- the numbers of `count` servers
 abbrev pub numbers_below : ℕ → List ℕ
 numbers_below count = range_with_len 0 count
+
+-- a child of one server
+abbrev pub alone : ℕ → Child
+alone number = record {
+  servers = number ∷ [];
+  hash = hash.Fnv1a;
+  part = part.Whole;
+  ring = None;
+}
 
 -- the configuration without pools: each of these addresses is a child of its own, and all servers
 -- are in one group
 abbrev pub in_order : List (List ℕ) → Configuration
 in_order addresses = record {
   addresses = addresses;
-  children = map (λ number. number ∷ []) (numbers_below (length addresses));
+  children = map alone (numbers_below (length addresses));
   failover_exptime = default_exptime;
   groups = replicate (length addresses) 0;
   soft_limits = None ∷ [];
@@ -122,12 +160,12 @@ pub record AreGroups (config : Configuration) : Type 0 where
   pub within : All (λ group. group < length config.soft_limits) config.groups
   pub small : All (λ limit. IfSome limit (λ n. n ≤ max_limit)) config.soft_limits
 
--- each child has a server, each number is below the number of addresses, and the servers have
--- groups
+-- each child is sound, each number is below the number of addresses, and the servers have groups
 pub record IsSoundConfig (config : Configuration) : Type 0 where
-  pub children : All (λ child. 0 < length child) config.children
+  pub children : All IsSoundChild config.children
   pub numbers :
-      All (λ child. All (λ number. number < length config.addresses) child) config.children
+      All (λ child. All (λ number. number < length config.addresses) child.servers)
+      config.children
   pub servers : length config.addresses ≤ max_servers
   pub groups : AreGroups config
 
@@ -138,7 +176,7 @@ pub record IsMeaning (root : Data) (config : Configuration) : Type 0 where
   pub sound : reason_of root ≡ None
   pub has_pools : pools_in root ≡ Some pools
   pub has_route : route_in root ≡ Some route
-  pub is : config ≡ configuration pools route
+  pub is : IsConfiguration pools route config
 
 -- a text means this configuration
 pub record Means (text : List ℕ) (config : Configuration) : Type 0 where

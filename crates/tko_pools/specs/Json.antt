@@ -14,12 +14,13 @@ abbrev pub texts_of : Items → List (List ℕ)
 texts_of no_items = []
 texts_of (item value items) = text_of_value value ∷ texts_of items
 
--- a pool: its name, the texts of its list of servers, none where it has no such list, and what it
--- has as its soft limit
+-- a pool: its name, the texts of its list of servers, none where it has no such list, what it has
+-- as its soft limit, and its value
 pub record Pool : Type 0 where
   pub name : List ℕ
   pub servers : List (List ℕ)
   pub soft_limit : Option Data
+  pub value : Data
 
 abbrev pub servers_of : Data → List (List ℕ)
 servers_of value =
@@ -28,7 +29,12 @@ servers_of value =
 -- the pool that a value is under this name
 abbrev pub pool_of : List ℕ → Data → Pool
 pool_of name value =
-    record { name = name; servers = servers_of value; soft_limit = limit_value value }
+    record {
+      name = name;
+      servers = servers_of value;
+      soft_limit = limit_value value;
+      value = value;
+    }
 
 -- the pools, in the byte order of their names
 abbrev pub pools_of : Members → List Pool

@@ -1,9 +1,14 @@
 pub mod Addresses
+pub mod Children
 pub mod Configs
+pub mod Distributions
 pub mod Groups
-pub mod Hash
 pub mod Json
 pub mod Numbering
+pub mod PlacementFlaws
+pub mod Placements
+pub mod PoolKeys
 pub mod Reasons
+pub mod RingServers
 pub mod Routes
 pub mod SoftLimits

@@ -7,9 +7,11 @@ use Rattle.serde_json.specs.Find.{get}
 use Rattle.tko_model.specs.Limits.{max_servers}
 use Rattle.tko_pools.specs.declared.fault.ConfigFault.{ConfigFault}
 use Rattle.tko_pools.specs.declared.fault.ConfigFault.TheVariants as fault
+use Rattle.tko_pools.specs.declared.pool_key.PoolKey.{PoolKey}
 use Rattle.tko_pools.specs.Addresses.{is_address}
 use Rattle.tko_pools.specs.Json.{Pool, pool_list, pools_in, servers_named}
 use Rattle.tko_pools.specs.Numbering.{numbered}
+use Rattle.tko_pools.specs.PlacementFlaws.{placement_flaw}
 use Rattle.tko_pools.specs.Routes.{RouteRead, route_in}
 use Rattle.tko_pools.specs.SoftLimits.{is_no_limit}
 
@@ -22,6 +24,8 @@ pub data Reason : Type 0 where
   BadAddress : List ℕ → Reason
   -- the pool of this name has a soft limit that is no whole number in its range
   BadSoftLimit : List ℕ → Reason
+  -- this key of the pool of this name says nothing of how it spreads keys that it may
+  BadKey : PoolKey → List ℕ → Reason
   -- there is no route, or it has another form
   BadRoute : Reason
   -- a child of the route names this pool, which is not there
@@ -36,12 +40,17 @@ bad_address servers = find (λ text. not (is_address text)) servers
 abbrev pub limit_reason : Pool → Option Reason
 limit_reason pool = if is_no_limit pool.soft_limit then Some (BadSoftLimit pool.name) else None
 
+-- what is wrong with how a pool spreads keys
+abbrev pub key_reason : Pool → Option Reason
+key_reason pool = option_map (λ key. BadKey key pool.name) (placement_flaw pool.value)
+
 -- what is wrong with a pool
 abbrev pub pool_reason : Pool → Option Reason
 pool_reason pool =
     if length pool.servers == 0
     then Some (EmptyPool pool.name)
-    else option_or (option_map BadAddress (bad_address pool.servers)) (limit_reason pool)
+    else option_or (option_map BadAddress (bad_address pool.servers))
+    (option_or (limit_reason pool) (key_reason pool))
 
 -- what is wrong with the first pool that is wrong
 abbrev pub pools_reason : List Pool → Option Reason
@@ -83,6 +92,7 @@ Reports found fault.NoPools = found ≡ Some NoPools
 Reports found (fault.EmptyPool name) = found ≡ Some (EmptyPool (string_bytes name))
 Reports found (fault.Address text) = found ≡ Some (BadAddress (string_bytes text))
 Reports found (fault.SoftLimit name) = found ≡ Some (BadSoftLimit (string_bytes name))
+Reports found (fault.PoolKey key name) = found ≡ Some (BadKey key (string_bytes name))
 Reports found fault.Route = found ≡ Some BadRoute
 Reports found (fault.NoSuchPool name) = found ≡ Some (NoSuchPool (string_bytes name))
 Reports found fault.TooManyServers = found ≡ Some TooManyServers

@@ -1,23 +1,26 @@
 //! A configuration and how it is read.
-ghost use Rattle.std.specs.Prelude.{◌≡◌, ◌<◌, [], None, All, IfOk, IfErr, OnOk, OnErr, length, map, string_bytes, unwrap_or};
+ghost use Rattle.std.specs.Prelude.{◌≡◌, ◌<◌, [], None, IfOk, IfErr, OnOk, OnErr, length, map, option_map, string_bytes, unwrap_or};
 ghost use Rattle.serde_json.specs.View.{view};
-ghost use Rattle.tko_pools.specs.Configs.{IsMeaning, IsRoot, Means, Refuses, addresses_of, child_of, chosen_by, configuration};
+ghost use Rattle.tko_pools.specs.Configs.{IsConfiguration, IsMeaning, IsRoot, Means, Refuses, addresses_of};
 ghost use Rattle.tko_pools.specs.Json.{pool_list};
 ghost use Rattle.tko_pools.specs.Reasons.{Reports, children_reason, pools_reason, reason_of};
 
 mod copying;
 mod in_order;
 
+use crate::ConfigFault;
+use crate::child::Child;
+use crate::children::{children_of, push_targets};
 use crate::flaws::{check_pools, unknown_child};
 use crate::groups::ServerGroups;
 use crate::json::{pools_in, servers_named};
 use crate::numbering::NumberedAddresses;
 use crate::route::Route;
-use crate::{ConfigFault, fnv1a};
 use serde_json::Value;
 use std::alloc::{AllocError, Global};
 use std::marker::Model;
 use tko_bytes::NoMemory;
+use tko_ring::Ring;
 
 /// The most different addresses of all children together.
 const MAX_ADDRESSES: usize = tko_model::MAX_SERVERS as usize;
@@ -27,7 +30,7 @@ const MAX_ADDRESSES: usize = tko_model::MAX_SERVERS as usize;
 #[derive(Drop)]
 pub struct Config {
     addresses: NumberedAddresses,
-    children: Vec<Vec<usize>>,
+    children: Vec<Child>,
     failover_exptime: u32,
     /// Of each server: the number of its group.
     groups: Vec<u32>,
@@ -36,14 +39,13 @@ pub struct Config {
 }
 
 impl Model for Config {
-    ghost use Rattle.std.specs.Prelude.{map};
     ghost use Rattle.tko_pools.specs.Configs.{Configuration, IsSoundConfig};
 
     ghost Value = { Configuration };
 
     ghost view = { λ c. record {
       addresses = c.addresses;
-      children = map (λ child. child.items) c.children.items;
+      children = c.children.items;
       failover_exptime = c.failover_exptime;
       groups = c.groups.items;
       soft_limits = c.soft_limits.items;
@@ -51,7 +53,7 @@ impl Model for Config {
 
     ghost invariant = { λ c. IsSoundConfig (record {
       addresses = c.addresses;
-      children = map (λ child. child.items) c.children.items;
+      children = c.children.items;
       failover_exptime = c.failover_exptime;
       groups = c.groups.items;
       soft_limits = c.soft_limits.items;
@@ -87,7 +89,8 @@ impl Config {
     fn over(alloc: Global, pools: &Value, route: &Route<'_>) -> Result<Config, ConfigFault>
         requires sound { pools_reason (pool_list (view pools.now)) ≡ None }
         requires some { 0 < length route.now.children }
-        ensures ok { IfOk result (λ config. config ≡ configuration (view pools.now) route.now) }
+        ensures ok { IfOk result (λ config.
+            IsConfiguration (view pools.now) route.now config) }
         ensures sound { IfOk result (λ config.
             children_reason (view pools.now) route.now.children ≡ None) }
         ensures err { IfErr result (λ fault.
@@ -114,12 +117,13 @@ impl Config {
 }
 
 impl Config {
-    ghost use Rattle.tko_pools.specs.Configs.{AreGroups, AreServers, limits_of, targets_of};
+    ghost use Rattle.tko_pools.specs.Configs.{AreGroups, AreOwners, AreServers, limits_of, ring_at, targets_of};
 
     /// The targets of a key, in the order of the children.
     pub fn targets(&self, alloc: Global, key: &[u8]) -> Result<Vec<usize>, NoMemory>
         ensures value { IfOk result (λ targets. targets.items ≡ targets_of self.now key.now) }
         ensures within { AreServers self.now (targets_of self.now key.now) }
+        ensures owners { AreOwners self.now key.now (targets_of self.now key.now) }
     {
         let mut targets = Vec::new(alloc);
         self.replace_targets(key, &mut targets)?;
@@ -127,17 +131,26 @@ impl Config {
     }
 
     /// Puts the targets of a key into a list, in place of what it held. At an `Err` it is empty.
+    #[tactic(auto, unfolding(crate::specs::Configs::targets_of))]
     pub fn replace_targets(&self, key: &[u8], targets: &mut Vec<usize>) -> Result<(), NoMemory>
         ensures ok { OnOk result (targets.new.items ≡ targets_of self.now key.now) }
         ensures within { AreServers self.now (targets_of self.now key.now) }
+        ensures owners { AreOwners self.now key.now (targets_of self.now key.now) }
         ensures err { OnErr result (targets.new.items ≡ []) }
     {
         targets.clear();
-        let done = push_chosen(fnv1a(key), &self.children, targets);
+        let done = push_targets(key, &self.children, targets);
         if done.is_err() {
             targets.clear();
         }
         done
+    }
+
+    /// The points of the child at this place, if it has a ring.
+    pub fn ring(&self, child: usize) -> Option<&Ring>
+        ensures { option_map (λ ring. ring.now) result ≡ ring_at self.now child }
+    {
+        self.children.get(child)?.ring()
     }
 
     /// The addresses of the servers, each at its number.
@@ -190,19 +203,6 @@ fn limits_or(alloc: Global, limits: &[Option<u32>], default: u32) -> Result<Vec<
     Ok(numbers)
 }
 
-/// Puts the server of each child for this hash into an empty list.
-fn push_chosen(hash: u32, children: &[Vec<usize>], targets: &mut Vec<usize>) -> Result<(), NoMemory>
-    requires empty { targets.old.items ≡ [] }
-    requires servers { All (λ child. 0 < length child.items) children.now }
-    ensures { OnOk result
-        (targets.new.items ≡ chosen_by hash (map (λ child. child.items) children.now)) }
-{
-    for child in children {
-        targets.push(child[hash as usize % child.len()])?;
-    }
-    Ok(())
-}
-
 /// The object that a text is the JSON of.
 fn root_of(alloc: Global, text: &[u8]) -> Result<Value, ConfigFault>
     ensures ok { IfOk result (λ root. IsRoot text.now (view root)) }
@@ -230,21 +230,4 @@ fn addresses_of(
         addresses.add_all(alloc, servers_named(pools, name))?;
     }
     Ok(addresses)
-}
-
-/// The servers of each of these pools, by their numbers.
-fn children_of(
-    alloc: Global,
-    addresses: &NumberedAddresses,
-    pools: &Value,
-    names: &[&str],
-) -> Result<Vec<Vec<usize>>, AllocError>
-    ensures { IfOk result (λ children. map (λ child. child.items) children.items
-        ≡ map (child_of addresses.now (view pools.now)) (map (λ name. name.now) names.now)) }
-{
-    let mut children = Vec::new(alloc);
-    for name in names {
-        children.push(addresses.numbers(alloc, servers_named(pools, name))?)?;
-    }
-    Ok(children)
 }

@@ -1,7 +1,9 @@
 //! Why a text is no configuration.
 
+use crate::PoolKey;
 use std::alloc::AllocError;
 use thiserror::Error;
+use tko_bytes::NoMemory;
 
 /// Why a text is no configuration, the first that applies in this order; only `Memory` may come in
 /// place of any other.
@@ -22,6 +24,9 @@ pub enum ConfigFault {
     /// The pool of this name has a soft limit that is no whole number from 0 to 256.
     #[error("soft-limit")]
     SoftLimit(String),
+    /// This key of the pool of this name does not say how the pool spreads keys over its servers.
+    #[error("{}", .0.word())]
+    PoolKey(PoolKey, String),
     /// `route` is missing or has another form.
     #[error("route")]
     Route,
@@ -42,6 +47,17 @@ impl From<AllocError> for ConfigFault {
     ghost from_gives = { λ _ e. e ≡ fault.Memory };
 
     fn from(_: AllocError) -> ConfigFault {
+        ConfigFault::Memory
+    }
+}
+
+impl From<NoMemory> for ConfigFault {
+    ghost use Rattle.std.specs.Prelude.{◌≡◌};
+    ghost use Rattle.tko_pools.specs.declared.fault.ConfigFault.TheVariants as fault;
+
+    ghost from_gives = { λ _ e. e ≡ fault.Memory };
+
+    fn from(_: NoMemory) -> ConfigFault {
         ConfigFault::Memory
     }
 }

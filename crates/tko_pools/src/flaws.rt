@@ -2,14 +2,17 @@
 ghost use Rattle.std.specs.Prelude.{◌≡◌, None, IfErr, IfOk, map, option_map};
 ghost use Rattle.serde_json.specs.View.{items_view, members_view, view};
 ghost use Rattle.tko_pools.specs.Json.{pool_list, pool_of, pools_of, texts_of};
-ghost use Rattle.tko_pools.specs.Reasons.{Reports, bad_address, pool_reason, pools_reason, unknown_child};
+ghost use Rattle.tko_pools.specs.PlacementFlaws.{placement_flaw};
+ghost use Rattle.tko_pools.specs.Reasons.{BadKey, Reports, bad_address, pool_reason, pools_reason, unknown_child};
 
 use crate::ConfigFault;
 use crate::address::is_address;
 use crate::json::{servers_of, text_of};
+use crate::placement_flaws::placement_flaw;
 use crate::soft_limits::has_no_limit;
 use serde_json::{Map, Value};
 use std::alloc::Global;
+use tko_bytes::NoMemory;
 
 /// Fails with what is wrong with the first pool that is wrong.
 pub(crate) fn check_pools(alloc: Global, pools: &Value) -> Result<(), ConfigFault>
@@ -51,7 +54,21 @@ fn check_pool(alloc: Global, name: &str, value: &Value) -> Result<(), ConfigFaul
     if has_no_limit(value) {
         return Err(ConfigFault::SoftLimit(String::from_str(alloc, name)?));
     }
-    Ok(())
+    check_keys(alloc, name, value)
+}
+
+/// Fails with the first key of a pool that does not say how it spreads keys over its servers.
+fn check_keys(alloc: Global, name: &str, value: &Value) -> Result<(), ConfigFault>
+    ensures ok { IfOk result (λ _.
+        option_map (λ key. BadKey key name.now) (placement_flaw (view value.now)) ≡ None) }
+    ensures err { IfErr result (λ fault.
+        Reports (option_map (λ key. BadKey key name.now) (placement_flaw (view value.now))) fault) }
+{
+    match placement_flaw(alloc, value) {
+        Ok(Some(key)) => Err(ConfigFault::PoolKey(key, String::from_str(alloc, name)?)),
+        Ok(None) => Ok(()),
+        Err(NoMemory) => Err(ConfigFault::Memory),
+    }
 }
 
 /// The first item of a pool's list that is no address.

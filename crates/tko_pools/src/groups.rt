@@ -6,6 +6,7 @@ ghost use Rattle.tko_pools.specs.Configs.{soft_limits_at, soft_limits_in};
 ghost use Rattle.tko_pools.specs.Groups.{first_child_with, first_place, groups_in, groups_of, is_number_in, owners_of, owning};
 ghost use Rattle.tko_model.specs.Limits.{max_servers};
 
+use crate::child::Child;
 use crate::soft_limits::soft_limit_named;
 use serde_json::Value;
 use std::alloc::{AllocError, Global};
@@ -23,15 +24,15 @@ impl ServerGroups {
         alloc: Global,
         pools: &Value,
         names: &[&str],
-        children: &[Vec<usize>],
+        children: &[Child],
         servers: usize,
     ) -> Result<ServerGroups, AllocError>
         requires few { servers ≤ max_servers }
         ensures groups { IfOk result (λ grouping. grouping.groups.items
-            ≡ groups_in (map (λ child. child.items) children.now) servers) }
+            ≡ groups_in (map (λ child. child.servers) children.now) servers) }
         ensures limits { IfOk result (λ grouping. grouping.soft_limits.items ≡ soft_limits_in
             (view pools.now) (map (λ name. name.now) names.now)
-            (map (λ child. child.items) children.now) servers) }
+            (map (λ child. child.servers) children.now) servers) }
     {
         let owners = owners_of(alloc, children, servers)?;
         let places = owning(alloc, &owners, children.len())?;
@@ -43,13 +44,9 @@ impl ServerGroups {
 }
 
 /// The owner of each server: the place of the first child that holds it.
-fn owners_of(
-    alloc: Global,
-    children: &[Vec<usize>],
-    servers: usize,
-) -> Result<Vec<usize>, AllocError>
+fn owners_of(alloc: Global, children: &[Child], servers: usize) -> Result<Vec<usize>, AllocError>
     ensures { IfOk result (λ owners. owners.items
-        ≡ owners_of (map (λ child. child.items) children.now) servers) }
+        ≡ owners_of (map (λ child. child.servers) children.now) servers) }
 {
     let mut owners = Vec::with_capacity(alloc, servers)?;
     for server in 0..servers {
@@ -59,16 +56,18 @@ fn owners_of(
 }
 
 /// The place of the first child that holds a server.
-fn owner_of(children: &[Vec<usize>], server: usize) -> usize
-    ensures { result ≡ first_child_with (map (λ child. child.items) children.now) server }
+fn owner_of(children: &[Child], server: usize) -> usize
+    ensures { result ≡ first_child_with (map (λ child. child.servers) children.now) server }
 {
     holder_of(children, server).unwrap_or(children.len())
 }
 
-fn holder_of(children: &[Vec<usize>], server: usize) -> Option<usize>
-    ensures { result ≡ position (λ child. is_number_in child.items server) children.now }
+fn holder_of(children: &[Child], server: usize) -> Option<usize>
+    ensures { result ≡ position (λ child. is_number_in child.servers server) children.now }
 {
-    children.iter().position(|child| is_in(child, server))
+    children
+        .iter()
+        .position(|child| is_in(child.servers(), server))
 }
 
 /// Whether a number is in a list.

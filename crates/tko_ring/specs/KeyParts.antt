@@ -33,4 +33,4 @@ without_prefix prefix key =
 abbrev pub hashed_part : KeyPart → List ℕ → List ℕ
 hashed_part part.Whole key = key
 hashed_part (part.Tagged opening closing) key = text_or (tag_text opening closing key) key
-hashed_part (part.AfterPrefix prefix) key = without_prefix prefix.items key
+hashed_part (part.AfterPrefix prefix) key = without_prefix prefix key

@@ -1,8 +1,11 @@
 //! What part of a key is hashed.
-ghost use Rattle.std.specs.Prelude.{◌≡◌, None, Some, MatchOption};
+ghost use Rattle.std.specs.Prelude.{◌≡◌, None, Some, IfOk, IsTrue, MatchOption};
 ghost use Rattle.tko_ring.specs.KeyParts.{after_byte, before_byte, hashed_part, tag_text, text_or, without_prefix};
 
+use crate::Prefix;
 use memchr::memchr;
+use std::alloc::Global;
+use tko_bytes::NoMemory;
 
 /// What part of a key is hashed.
 #[derive(Debug, Drop)]
@@ -12,7 +15,7 @@ pub enum KeyPart {
     /// nothing, or one of the two is missing.
     Tagged { opening: u8, closing: u8 },
     /// What follows this prefix; the whole key where it begins otherwise.
-    AfterPrefix(Vec<u8>),
+    AfterPrefix(Prefix),
 }
 
 impl KeyPart {
@@ -23,7 +26,38 @@ impl KeyPart {
         match self {
             KeyPart::Whole => key,
             KeyPart::Tagged { opening, closing } => tagged(*opening, *closing, key),
-            KeyPart::AfterPrefix(prefix) => without_prefix(prefix, key),
+            KeyPart::AfterPrefix(prefix) => without_prefix(prefix.bytes(), key),
+        }
+    }
+
+    pub fn copy(&self, alloc: Global) -> Result<KeyPart, NoMemory>
+        ensures { IfOk result (λ copy. copy ≡ self.now) }
+    {
+        match self {
+            KeyPart::Whole => Ok(KeyPart::Whole),
+            KeyPart::Tagged { opening, closing } => Ok(KeyPart::Tagged {
+                opening: *opening,
+                closing: *closing,
+            }),
+            KeyPart::AfterPrefix(prefix) => Ok(KeyPart::AfterPrefix(prefix.copy(alloc)?)),
+        }
+    }
+
+    /// Whether another is the same.
+    pub fn is_same(&self, other: &KeyPart) -> bool
+        ensures { IsTrue result → self.now ≡ other.now }
+    {
+        match (self, other) {
+            (KeyPart::Whole, KeyPart::Whole) => true,
+            (
+                KeyPart::Tagged { opening, closing },
+                KeyPart::Tagged {
+                    opening: first,
+                    closing: last,
+                },
+            ) => opening == first && closing == last,
+            (KeyPart::AfterPrefix(one), KeyPart::AfterPrefix(another)) => one.is_same(another),
+            _ => false,
         }
     }
 }

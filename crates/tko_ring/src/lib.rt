@@ -18,6 +18,7 @@ mod mixing;
 mod name;
 mod point;
 mod points;
+mod prefix;
 mod ring;
 mod server;
 mod words;
@@ -27,6 +28,7 @@ pub use key_part::KeyPart;
 pub use kind::RingKind;
 pub use name::default_name;
 pub use point::Point;
+pub use prefix::Prefix;
 pub use ring::Ring;
 pub use server::{MAX_WEIGHT, Server, are_weighed};
 

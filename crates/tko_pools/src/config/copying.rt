@@ -1,8 +1,9 @@
-//! Copies of a configuration, for parts of a program that each own one.
-ghost use Rattle.std.specs.Prelude.{◌≡◌, IfOk, map};
+//! Copies of a configuration, for parts of a program that each own one. They share the rings.
+ghost use Rattle.std.specs.Prelude.{◌≡◌, IfOk};
 
 use super::Config;
-use std::alloc::{AllocError, Global};
+use crate::child::Child;
+use std::alloc::Global;
 use tko_bytes::NoMemory;
 
 impl Config {
@@ -19,13 +20,12 @@ impl Config {
     }
 }
 
-fn copy_children(alloc: Global, children: &[Vec<usize>]) -> Result<Vec<Vec<usize>>, AllocError>
-    ensures { IfOk result (λ copies. map (λ child. child.items) copies.items
-        ≡ map (λ child. child.items) children.now) }
+fn copy_children(alloc: Global, children: &[Child]) -> Result<Vec<Child>, NoMemory>
+    ensures { IfOk result (λ copies. copies.items ≡ children.now) }
 {
     let mut copies = Vec::new(alloc);
     for child in children {
-        copies.push(child.to_vec(alloc)?)?;
+        copies.push(child.copy(alloc)?)?;
     }
     Ok(copies)
 }

@@ -1,9 +1,10 @@
 //! The configuration without pools.
 ghost use Rattle.std.specs.Prelude.{◌≡◌, ◌≤◌, ℕ, [], ◌∷◌, List, IfOk, length, map, string_bytes};
-ghost use Rattle.tko_pools.specs.Configs.{in_order, numbers_below, targets_of};
+ghost use Rattle.tko_pools.specs.Configs.{alone, in_order, numbers_below, targets_of};
 ghost use Rattle.tko_model.specs.Limits.{max_servers};
 
 use super::Config;
+use crate::child::Child;
 use crate::numbering::NumberedAddresses;
 use crate::route::DEFAULT_EXPTIME;
 use std::alloc::Global;
@@ -30,13 +31,12 @@ impl Config {
 }
 
 /// Children of one server each, `count` of them.
-fn children_in_order(alloc: Global, count: usize) -> Result<Vec<Vec<usize>>, NoMemory>
-    ensures { IfOk result (λ children. map (λ child. child.items) children.items
-        ≡ map (λ number. number ∷ []) (numbers_below count)) }
+fn children_in_order(alloc: Global, count: usize) -> Result<Vec<Child>, NoMemory>
+    ensures { IfOk result (λ children. children.items ≡ map alone (numbers_below count)) }
 {
     let mut children = Vec::with_capacity(alloc, count)?;
     for number in 0..count {
-        children.push(vec![in alloc; number]?)?;
+        children.push(Child::alone(alloc, number)?)?;
     }
     Ok(children)
 }

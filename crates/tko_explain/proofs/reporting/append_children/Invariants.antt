@@ -1,12 +1,10 @@
-use Rattle.std.proofs.Common.{◌≡◌, ◌++◌, drop, map, string_bytes}
+use Rattle.std.proofs.Common.{◌≡◌, ◌++◌, drop, map}
 use Rattle.serde_json.specs.View.{view}
 use Rattle.tko_explain.specs.Reports.{children_text}
 use Rattle.tko_explain.proofs.reporting.append_children.Given as goal
 
 -- the lines so far and those of the pools that are left
-abbrev pub invariant-loop-name : goal.invariant-loop-name
-invariant-loop-name l =
-    l.out.items
-    ++ children_text (map string_bytes l.addresses) (view l.pools) (map (λ name. name.now) (drop l.name-index l.names))
-    ≡ l.initial.out.items
-    ++ children_text (map string_bytes l.addresses) (view l.pools) (map (λ name. name.now) l.names)
+abbrev pub invariant-loop-place : goal.invariant-loop-place
+invariant-loop-place l =
+    l.out.items ++ children_text l.config (view l.pools) l.place (map (λ name. name.now) (drop l.place l.names))
+    ≡ l.initial.out.items ++ children_text l.config (view l.pools) 0 (map (λ name. name.now) l.names)

@@ -1,5 +1,5 @@
 use Rattle.std.proofs.Common.{◌≡◌, drop, map}
-use Rattle.tko_explain.specs.Warnings.{is_in_names}
+use Rattle.tko_pools.specs.RingServers.{is_in_names}
 use Rattle.tko_explain.proofs.warnings.is_in_names.Given as goal
 
 -- it is among those that are left where it is among all

@@ -5,7 +5,7 @@ use Rattle.tko_pools.proofs.groups.ServerGroups.of.Goals as goal
 
 pub groups_of-requires : goal.groups_of-requires
 groups_of-requires c =
-    let children = map (λ child. child.items) c.args.children.now in
+    let children = map (λ child. child.servers) c.args.children.now in
     record {
       few = few-owned children c.args.servers (length c.args.children.now) max_servers _ _ (c.deref.ensures.value ∙ c.in_ok-owners.ensures) (c.deref-3.ensures.value ∙ c.in_ok-places.ensures) c.requires.few;
     }
