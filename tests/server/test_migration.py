@@ -59,7 +59,9 @@ class Conversion(unittest.TestCase):
 @unittest.skipUnless(shutil.which("nutcracker"), "nutcracker is not installed")
 class Keys(ServerTest):
     def test_each_key_that_nutcracker_stored_is_found(self):
-        for distribution, hash_name, count in (("ketama", "fnv1a_64", 7), ("ketama", "murmur", 25), ("modula", "md5", 3)):
+        for distribution, hash_name, count in (
+                ("ketama", "fnv1a_64", 1), ("ketama", "md5", 12), ("ketama", "murmur", 25), ("ketama", "fnv1_32", 40),
+                ("modula", "one_at_a_time", 17)):
             with self.subTest(distribution=distribution, hash=hash_name, count=count):
                 self.find(distribution, hash_name, [self.memcached() for _ in range(count)])
 
@@ -73,7 +75,7 @@ class Keys(ServerTest):
             words = ["nutcracker", "-c", file.name, "-a", HOST, "-s", str(free_port())]
             self.addCleanup(stop, start(words, stdout=subprocess.DEVNULL, stderr=subprocess.DEVNULL))
             wait_until(lambda: is_open(port), 10, "nutcracker listens")
-        keys = [b"key:%d" % number for number in range(1000)]
+        keys = [b"key:%d" % number for number in range(20_000)]
         with Client(port) as old:
             for key in keys:
                 self.assertEqual(old.ask(store(key, key)), b"STORED\r\n")
