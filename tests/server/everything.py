@@ -4,6 +4,7 @@ Each file is a process of its own, for each mode, and as many run side by side a
 what the proxy's process holds or takes run at the end, one after another."""
 import glob
 import os
+import queue
 import signal
 import subprocess
 import sys
@@ -30,10 +31,11 @@ def run_here(names):
     return result.wasSuccessful() and result.testsRun > 0
 
 
-def run_file(name, mode):
-    """Runs the tests of a file in a process of its own, prints what it printed, and returns whether they passed."""
+def run_file(name, mode, ports):
+    """Runs the tests of a file in a process of its own, whose servers listen at these ports (ports.py). Prints what it
+    printed, and returns whether they passed."""
     began, said = time.monotonic(), {"stdout": subprocess.PIPE, "stderr": subprocess.STDOUT, "text": True}
-    named = {"TKO_MODE": mode} if mode else {}
+    named = {"TKO_PORTS": ports, **({"TKO_MODE": mode} if mode else {})}
     process = subprocess.Popen([sys.executable, "-B", __file__, name], env=os.environ | named, stdin=subprocess.DEVNULL, **said)
     running.append(process)
     text, _ = process.communicate()
@@ -42,6 +44,15 @@ def run_file(name, mode):
     print(f"tests/server: {label(name, mode)}, {time.monotonic() - began:.0f} s{'' if is_well else ': FAILED'}")
     print(text, end="", flush=True)
     return is_well
+
+
+def run_in_a_part(parts, name, mode):
+    """Runs the tests of a file with a part of the ports that no other one has meanwhile."""
+    part = parts.get()
+    try:
+        return run_file(name, mode, part)
+    finally:
+        parts.put(part)
 
 
 def label(name, mode):
@@ -59,10 +70,13 @@ def run_side_by_side(modes):
     rank = {name: place for place, name in enumerate(LONGEST)}
     names = sorted(files(), key=lambda it: rank.get(it, len(rank)))
     jobs = [(name, mode) for name in names for mode in modes]
-    with ThreadPoolExecutor(len(os.sched_getaffinity(0))) as pool:
-        given = {it: pool.submit(run_file, *it) for it in jobs if it[0] not in ALONE}
+    at_once, parts = len(os.sched_getaffinity(0)), queue.SimpleQueue()
+    for part in range(at_once):
+        parts.put(f"{part}/{at_once}")
+    with ThreadPoolExecutor(at_once) as pool:
+        given = {it: pool.submit(run_in_a_part, parts, *it) for it in jobs if it[0] not in ALONE}
     well = {job: it.result() for job, it in given.items()}
-    well |= {it: run_file(*it) for it in jobs if it[0] in ALONE}
+    well |= {it: run_file(*it, "0/1") for it in jobs if it[0] in ALONE}
     failed = [label(*job) for job, is_well in well.items() if not is_well]
     print(f"tests/server: {len(well) - len(failed)} of {len(well)} files passed", *failed, sep="\ntests/server: FAILED: ")
     return not failed
