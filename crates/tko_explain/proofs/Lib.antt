@@ -1,4 +1,8 @@
+mod BegunLemmas
+mod KeptLemmas
+mod KeysTextLemmas
 pub mod NumberLemmas
 pub mod OddLemmas
 mod PointLemmas
 pub mod ReportLemmas
+mod TallyLemmas

@@ -1,3 +1,9 @@
+pub mod Counts
+pub mod KeyCounting
+pub mod KeyReports
+pub mod KeyTallies
+pub mod KeysFaults
+pub mod Moves
 pub mod OddAddresses
 pub mod Parts
 pub mod Placing

@@ -80,6 +80,16 @@ pub record AreWarningsOf (json : List ℕ) (root pools : Data) (config : Configu
   pub is : text ≡ warnings_text root ++ repeats_text root ++ odd
       ++ rings_text config pools 0 (pool_names_of root) ++ key_text
 
+-- a text means a configuration, and this is what is warned of in it
+pub record IsWarnedOf (json text : List ℕ) : Type 0 where
+  pub root : Data
+  pub pools : Data
+  pub config : Configuration
+  pub is_root : IsRoot json root
+  pub meaning : IsMeaning root config
+  pub has_pools : pools_in root ≡ Some pools
+  pub warned : AreWarningsOf json root pools config text
+
 -- what no configuration tells of its servers
 abbrev pub values_note : List ℕ
 values_note = codes "note: no server may hold a value above 1 MiB (memcached -I above 1m)"

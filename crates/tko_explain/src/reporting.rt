@@ -3,7 +3,7 @@ ghost use Rattle.std.specs.Prelude.{◌≡◌, ◌++◌, IfOk, IfErr, OnOk, map,
 ghost use Rattle.std.specs.List.{position};
 ghost use Rattle.std.specs.Str.{bytes_eq};
 ghost use Rattle.serde_json.specs.View.{items_view, view};
-ghost use Rattle.tko_explain.specs.Reports.{AreWarningsOf, IsReport, addresses_text, child_text, children_text, config_text, expiry_text, limit_text, report_text, rings_text, routed_keys_text, targets_text, values_note};
+ghost use Rattle.tko_explain.specs.Reports.{AreWarningsOf, IsReport, IsWarnedOf, addresses_text, child_text, children_text, config_text, expiry_text, limit_text, report_text, rings_text, routed_keys_text, targets_text, values_note};
 ghost use Rattle.tko_pools.specs.Configs.{Refuses, child_of};
 ghost use Rattle.tko_explain.specs.Parts.{pool_names_of};
 ghost use Rattle.tko_pools.specs.Json.{servers_named, texts_of};
@@ -44,6 +44,24 @@ pub fn report(alloc: Global, json: &str, keys: &[String]) -> Result<Vec<u8>, Con
         return Err(ConfigFault::Memory);
     };
     match report_of(alloc, &root, pools, &config, keys, &warnings) {
+        Ok(text) => Ok(text),
+        Err(NoMemory) => Err(ConfigFault::Memory),
+    }
+}
+
+/// What is warned of in the text of a configuration, a line each, as `report` has it.
+pub fn warnings_of(alloc: Global, json: &str) -> Result<Vec<u8>, ConfigFault>
+    ensures ok { IfOk result (λ text. IsWarnedOf json.now text.items) }
+    ensures err { IfErr result (λ fault. Refuses json.now fault) }
+{
+    let config = Config::read(alloc, json.as_bytes())?;
+    let Ok(root) = Value::from_str(alloc, json) else {
+        return Err(ConfigFault::Memory);
+    };
+    let Some(pools) = pools_in(&root) else {
+        return Err(ConfigFault::Memory);
+    };
+    match warnings_over(alloc, json, &root, pools, &config) {
         Ok(text) => Ok(text),
         Err(NoMemory) => Err(ConfigFault::Memory),
     }
@@ -241,7 +259,7 @@ fn append_limit(alloc: Global, out: &mut Vec<u8>, pools: &Value, name: &str) -> 
 }
 
 /// The numbers of the servers of the pool of a name.
-fn numbers_of(
+pub(crate) fn numbers_of(
     alloc: Global,
     addresses: &[String],
     pools: &Value,
