@@ -61,6 +61,22 @@ class Starting(ServerTest):
                 client.close()
 
 
+class Warnings(ServerTest):
+    def test_what_is_odd_is_said_before_ready(self):
+        """The warnings that `check` prints of a configuration, before the notes, and those alone."""
+        config = configuration(only=[self.memcached()]).replace('"route"', '"rout":1,"route"')
+        checked = subprocess.run([parts.PROGRAM, "check", "--config", config], stdout=subprocess.PIPE, check=True)
+        warnings = [line for line in checked.stdout.splitlines() if line.startswith(b"warning: ")]
+        self.assertEqual(warnings, [b'warning: key "rout" is ignored'])
+        said = self.proxy(config).error_text().splitlines()
+        self.assertEqual([line for line in said if line.startswith(b"warning: ")], warnings)
+        self.assertEqual(said[0], warnings[0])
+
+    def test_an_ordinary_configuration_has_none(self):
+        said = self.proxy(configuration(only=[self.memcached()])).error_text()
+        self.assertNotIn(b"warning: ", said)
+
+
 @unittest.skipUnless(os.getuid() == 0, "only root may run a program as a user that may have few threads")
 class FewThreads(Starting):
     def setUp(self):

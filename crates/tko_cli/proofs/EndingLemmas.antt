@@ -7,37 +7,39 @@ use Rattle.tko_commands.proofs.FaultLineLemmas.{told_as}
 use Rattle.tko_commands.specs.FaultLines.{IsFaultWritten, IsReasonTold}
 use Rattle.tko_commands.specs.Reasons.{LeftOut}
 use Rattle.tko_commands.specs.declared.fault.Fault.{Fault}
-use Rattle.tko_cli.specs.Endings.{IsFaultTold, AfterReason, AfterNotices}
-use Rattle.tko_cli.specs.Serving.{IsSilentOrNoted, Silent, WithNotices}
+use Rattle.tko_cli.specs.Endings.{IsFaultTold, AfterReason, AfterNotes}
+use Rattle.tko_cli.specs.Serving.{IsSilentOrNoted, Silent, WithNotes}
+use Rattle.tko_io.specs.declared.io.Outlet.{Ghosts as OutletGhosts}
 
 -- the line of a fault after what a server noted
-pub fault_told : {O F : Type 0} (takes : O → List ℕ → O → Type 0) (failures : O → ℕ) (notes : F → List ℕ → F → Type 0)
-    (faults : F → ℕ) (came : Fault → Type 0) (reason : Fault) (from to : O) (old middle new : F) → came reason
-    → IsSilentOrNoted takes failures notes faults from to old middle
-    → IsFaultWritten notes faults reason middle new → IsFaultTold takes failures notes faults came from to old new
-fault_told takes failures notes faults came reason from to old middle new known (Silent same) told =
+pub fault_told : {O F : Type 0} (takes : O → List ℕ → O → Type 0) (failures : O → ℕ) (notes : OutletGhosts F)
+    (is_noted : F → F → Type 0) (came : Fault → Type 0) (reason : Fault) (from to : O) (old middle new : F) → came reason
+    → IsSilentOrNoted takes failures is_noted from to old middle
+    → IsFaultWritten notes.takes notes.failures reason middle new → IsFaultTold takes failures notes is_noted came from to old new
+fault_told takes failures notes is_noted came reason from to old middle new known (Silent same) told =
     AfterReason (record { middle = middle; fault = reason; known = known; reason = LeftOut same; line = told })
-fault_told takes failures notes faults came reason from to old middle new known (WithNotices failed noted) told =
-    AfterNotices middle reason known failed noted told
+fault_told takes failures notes is_noted came reason from to old middle new known (WithNotes failed noted) told =
+    AfterNotes middle reason known failed noted told
 
 -- the line of a fault after the one that says why
-pub told_why : {O F : Type 0} (takes : O → List ℕ → O → Type 0) (failures : O → ℕ) (notes : F → List ℕ → F → Type 0)
-    (faults : F → ℕ) (came : Fault → Type 0) (reason : Fault) (from to : O) (old middle new : F) → came reason
-    → middle ≡ old → IsReasonTold notes faults (λ it. it ≡ reason) middle new
-    → IsFaultTold takes failures notes faults came from to old new
-told_why takes failures notes faults came reason from to old middle new known same told =
+pub told_why : {O F : Type 0} (takes : O → List ℕ → O → Type 0) (failures : O → ℕ) (notes : OutletGhosts F)
+    (is_noted : F → F → Type 0) (came : Fault → Type 0) (reason : Fault) (from to : O) (old middle new : F) → came reason
+    → middle ≡ old → IsReasonTold notes.takes notes.failures (λ it. it ≡ reason) middle new
+    → IsFaultTold takes failures notes is_noted came from to old new
+told_why takes failures notes is_noted came reason from to old middle new known same told =
     AfterReason (rw same at
-    (told_as notes faults (λ it. it ≡ reason) came middle new (λ it is. subst came (sym is) known) told))
+    (told_as notes.takes notes.failures (λ it. it ≡ reason) came middle new (λ it is. subst came (sym is) known) told))
 
--- what is known of the fault says more
-pub fault_as : {O F : Type 0} (takes : O → List ℕ → O → Type 0) (failures : O → ℕ) (notes : F → List ℕ → F → Type 0)
-    (faults : F → ℕ) (came other : Fault → Type 0) (from to : O) (old new : F)
-    → ((fault : Fault) → came fault → other fault) → IsFaultTold takes failures notes faults came from to old new
-    → IsFaultTold takes failures notes faults other from to old new
-fault_as takes failures notes faults came other from to old new next (AfterReason told) =
-    AfterReason (told_as notes faults came other old new next told)
-fault_as takes failures notes faults came other from to old new next (AfterNotices middle reason known failed noted told) =
-    AfterNotices middle reason (next reason known) failed noted told
+-- what is known of the fault, and what was noted, say more
+pub fault_as : {O F : Type 0} (takes : O → List ℕ → O → Type 0) (failures : O → ℕ) (notes : OutletGhosts F)
+    (is_noted also : F → F → Type 0) (came other : Fault → Type 0) (from to : O) (old new : F)
+    → ((middle : F) → is_noted old middle → also old middle)
+    → ((fault : Fault) → came fault → other fault) → IsFaultTold takes failures notes is_noted came from to old new
+    → IsFaultTold takes failures notes also other from to old new
+fault_as takes failures notes is_noted also came other from to old new more next (AfterReason told) =
+    AfterReason (told_as notes.takes notes.failures came other old new next told)
+fault_as takes failures notes is_noted also came other from to old new more next (AfterNotes middle reason known failed noted told) =
+    AfterNotes middle reason (next reason known) failed (more middle noted) told
 
 -- what was read from the words, where a command was
 pub asked_of : (result : Result Asked Refusal) (words : List (List ℕ)) (asked : Asked) → result ≡ Ok asked

@@ -1,7 +1,8 @@
 -- Notices that were written one after another.
-use Rattle.std.proofs.Common.{ℕ, List, [], ◌∷◌, ◌++◌}
+use Rattle.std.proofs.Common.{ℕ, ◌<◌, List, [], ◌∷◌, ◌++◌, Ok, Err, OnErr, OnOk, Result}
+use Rattle.tko_explain.specs.Reports.{IsWarnedOf}
 use Rattle.tko_model.proofs.RecordLemmas.{gains_append, gains_none, gains_one}
-use Rattle.tko_cli.specs.Notices.{HasNotice, HasNotices}
+use Rattle.tko_cli.specs.Notices.{HasNotice, HasNotices, HasWarnings, Warned, WarningFailed}
 use Rattle.tko_cli.specs.declared.notice.Notice.{Notice}
 
 pub no_notice : {O : Type 0} (takes : O → List ℕ → O → Type 0) (failures : O → ℕ) (at : O)
@@ -17,3 +18,10 @@ pub more_notices : {O : Type 0} (takes : O → List ℕ → O → Type 0) (failu
     → HasNotices takes failures old new
 more_notices takes failures old mid new front back =
     record { notices = front.notices ++ back.notices; each = gains_append front.each back.each }
+
+-- what is warned of was written, or the outlet failed
+pub warned : {O T E : Type 0} (takes : O → List ℕ → O → Type 0) (failures : O → ℕ) (json text : List ℕ)
+    (old new : O) (result : Result T E) → IsWarnedOf json text → OnOk result (takes old text new)
+    → OnErr result (failures old < failures new) → HasWarnings takes failures json old new
+warned takes failures json text old new (Ok it) is went failed = Warned text is went
+warned takes failures json text old new (Err it) is went failed = WarningFailed failed

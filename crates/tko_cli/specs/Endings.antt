@@ -1,5 +1,6 @@
 -- What a command did, by how it ended.
 use Rattle.std.specs.Prelude.{ℕ, ◌≡◌, ◌<◌, List, Option, Some, None, string_bytes}
+use Rattle.std.specs.declared.fs.File.{File}
 use Rattle.tko_io.specs.declared.io.Inlet.{Ghosts as InletGhosts}
 use Rattle.tko_io.specs.declared.io.Outlet.{Ghosts as OutletGhosts}
 use Rattle.tko_commands.specs.Done.{HasCheckedAll, HasDried}
@@ -11,7 +12,7 @@ use Rattle.tko_commands.specs.declared.fault.Fault.{Fault}
 use Rattle.tko_commands.specs.declared.fault.Fault.TheVariants as fault
 use Rattle.tko_cli.specs.Demos.{HasDemonstrated, IsDemoFault}
 use Rattle.tko_demo.specs.Stories.{StayFails}
-use Rattle.tko_cli.specs.Notices.{HasNotices}
+use Rattle.tko_cli.specs.Notices.{HasServerNotes}
 use Rattle.tko_cli.specs.Serving.{HasServeFailed, HasServedToEnd, ServeFails}
 use Rattle.tko_options.specs.Asked.{IsReadFrom, IsRefusal}
 use Rattle.tko_options.specs.declared.asked.Asked.TheVariants as asked
@@ -32,13 +33,13 @@ abbrev pub ends : {I O F : Type 0} → I → O → F → CommandEnds I O F
 ends input output faults = record { input = input; output = output; faults = faults }
 
 -- a server of these options, with the text of their configuration's file if they name one, ran to
--- its end, and there are notices
+-- its end, and there are its notes
 pub record HasServedFor {O F : Type 0} (outlet : OutletGhosts O) (notes : OutletGhosts F)
     (options : ServeOptions) (old new : O × F) : Type 0 where
   pub loaded : ServeOptions
   pub text : IsLoadedServer options loaded
   pub served : HasServedToEnd outlet.takes loaded old.0 new.0
-  pub noted : HasNotices notes.takes notes.failures old.1 new.1
+  pub noted : HasServerNotes notes.takes notes.failures (string_bytes loaded.config) old.1 new.1
 
 -- the text that is to be shown in place of a command
 abbrev pub answer_in : Refusal → Option (List ℕ)
@@ -46,7 +47,8 @@ answer_in (refusal.Answer text) = Some (string_bytes text)
 answer_in _ = None
 
 -- the command that these words ask for was done, and no fault was written; or a text was, as the
--- help, where clap takes no command from the words
+-- help, where clap takes no command from the words. What a file has left is what std says of it,
+-- which is nothing.
 pub data IsCommandDone {I O F : Type 0} (inlet : InletGhosts I) (outlet : OutletGhosts O)
     (notes : OutletGhosts F) (words : List (List ℕ)) (old new : CommandEnds I O F) : Type 0 where
   Dried : (options : DryOptions) → IsReadFrom words (asked.Dry options)
@@ -59,10 +61,11 @@ pub data IsCommandDone {I O F : Type 0} (inlet : InletGhosts I) (outlet : Outlet
   Served : (options : ServeOptions) → IsReadFrom words (asked.Serve options)
       → HasServedFor outlet notes options (old.output, old.faults) (new.output, new.faults)
       → new.input ≡ old.input → IsCommandDone inlet outlet notes words old new
-  Checked : (options : CheckOptions) → IsReadFrom words (asked.Check options)
-      → HasCheckedAll outlet.takes options old.output new.output
-      → new.input ≡ old.input → new.faults ≡ old.faults
-      → IsCommandDone inlet outlet notes words old new
+  Checked : (left : File → Option (List ℕ)) (options : CheckOptions)
+      → IsReadFrom words (asked.Check options)
+      → HasCheckedAll inlet left outlet.takes options (old.input, old.output)
+      (new.input, new.output)
+      → new.faults ≡ old.faults → IsCommandDone inlet outlet notes words old new
   Demonstrated : (options : DemoOptions) → IsReadFrom words (asked.Demo options)
       → HasDemonstrated inlet outlet.takes options (old.input, old.output) (new.input, new.output)
       → new.faults ≡ old.faults → IsCommandDone inlet outlet notes words old new
@@ -80,6 +83,21 @@ pub data HasNotServed {O : Type 0} (takes : O → List ℕ → O → Type 0) (fa
       → ServeFails takes failures loaded from to reason
       → HasNotServed takes failures options from to reason
 
+-- there are the notes of a server of these options, with the text of their configuration's file if
+-- they name one
+pub record HasNotesFor {F : Type 0} (notes : OutletGhosts F) (options : ServeOptions) (old new : F)
+    : Type 0 where
+  pub loaded : ServeOptions
+  pub text : IsLoadedServer options loaded
+  pub noted : HasServerNotes notes.takes notes.failures (string_bytes loaded.config) old new
+
+-- there are the notes of the server that these words ask for
+pub record HasNotesOf {F : Type 0} (notes : OutletGhosts F) (words : List (List ℕ)) (old new : F)
+    : Type 0 where
+  pub options : ServeOptions
+  pub asked : IsReadFrom words (asked.Serve options)
+  pub noted : HasNotesFor notes options old new
+
 -- by this fault the command that these words ask for ended; or the text that was to be shown in
 -- place of one could not be written, or there was no memory to read the words
 pub data IsNotDone {I O : Type 0} (inlet : InletGhosts I) (outlet : OutletGhosts O)
@@ -94,8 +112,8 @@ pub data IsNotDone {I O : Type 0} (inlet : InletGhosts I) (outlet : OutletGhosts
       → HasNotServed outlet.takes outlet.failures options old.1 new.1 reason
       → new.0 ≡ old.0 → IsNotDone inlet outlet words old new reason
   NotCheckedFor : (options : CheckOptions) → IsReadFrom words (asked.Check options)
-      → HasNotChecked outlet.failures options old.1 new.1 reason
-      → new.0 ≡ old.0 → IsNotDone inlet outlet words old new reason
+      → HasNotChecked inlet.failures outlet.failures options old new reason
+      → IsNotDone inlet outlet words old new reason
   NotShown : (shown : Refusal) (text : List ℕ) → IsRefusal words shown
       → answer_in shown ≡ Some text → reason ≡ fault.Write
       → outlet.failures old.1 < outlet.failures new.1 → new.0 ≡ old.0
@@ -104,23 +122,23 @@ pub data IsNotDone {I O : Type 0} (inlet : InletGhosts I) (outlet : OutletGhosts
       → IsNotDone inlet outlet words old new reason
 
 -- a fault came, of which this is known; its line was written, and nothing else but a line that says
--- why, or the notices of a server that was ready to run
+-- why, or what is noted of a server that was ready to run
 pub data IsFaultTold {O F : Type 0} (takes : O → List ℕ → O → Type 0) (failures : O → ℕ)
-    (notes : F → List ℕ → F → Type 0) (faults : F → ℕ) (came : Fault → Type 0)
+    (notes : OutletGhosts F) (is_noted : F → F → Type 0) (came : Fault → Type 0)
     (from to : O) (old new : F) : Type 0
   where
-    AfterReason : IsReasonTold notes faults came old new
-        → IsFaultTold takes failures notes faults came from to old new
-    AfterNotices : (middle : F) (reason : Fault) → came reason
+    AfterReason : IsReasonTold notes.takes notes.failures came old new
+        → IsFaultTold takes failures notes is_noted came from to old new
+    AfterNotes : (middle : F) (reason : Fault) → came reason
         → HasServeFailed takes failures from to
-        → HasNotices notes faults old middle → IsFaultWritten notes faults reason middle new
-        → IsFaultTold takes failures notes faults came from to old new
+        → is_noted old middle → IsFaultWritten notes.takes notes.failures reason middle new
+        → IsFaultTold takes failures notes is_noted came from to old new
 
 -- by a fault the command that these words ask for ended, and its line was written; of `demo` it is
 -- a fault of its own
 pub data HasCommandFailed {I O F : Type 0} (inlet : InletGhosts I) (outlet : OutletGhosts O)
     (notes : OutletGhosts F) (words : List (List ℕ)) (old new : CommandEnds I O F) : Type 0 where
-  WithFault : IsFaultTold outlet.takes outlet.failures notes.takes notes.failures
+  WithFault : IsFaultTold outlet.takes outlet.failures notes (HasNotesOf notes words)
       (IsNotDone inlet outlet words (old.input, old.output) (new.input, new.output))
       old.output new.output old.faults new.faults
       → HasCommandFailed inlet outlet notes words old new

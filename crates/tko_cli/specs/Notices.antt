@@ -2,6 +2,7 @@
 use Rattle.std.specs.Prelude.{◌≡◌, ◌<◌, ℕ, List, ◌++◌, codes, decimal}
 use Rattle.tko_model.specs.Records.{Gains}
 use Rattle.tko_accept.specs.declared.allotment.Allotment.{Allotment}
+use Rattle.tko_explain.specs.Reports.{IsWarnedOf}
 use Rattle.tko_cli.specs.declared.notice.Notice.{Notice}
 use Rattle.tko_cli.specs.declared.notice.Notice.TheVariants as notice
 
@@ -40,3 +41,18 @@ pub record HasNotices {O : Type 0} (takes : O → List ℕ → O → Type 0) (fa
     (old new : O) : Type 0 where
   pub notices : List Notice
   pub each : Gains (HasNotice takes failures) old notices new
+
+-- what is warned of in this text of a configuration was written, or nothing, or the outlet failed
+pub data HasWarnings {O : Type 0} (takes : O → List ℕ → O → Type 0) (failures : O → ℕ)
+    (json : List ℕ) (old new : O) : Type 0 where
+  Warned : (text : List ℕ) → IsWarnedOf json text → takes old text new
+      → HasWarnings takes failures json old new
+  NotWarned : new ≡ old → HasWarnings takes failures json old new
+  WarningFailed : failures old < failures new → HasWarnings takes failures json old new
+
+-- a server says what is warned of in this text of its configuration, and then there are notices
+pub record HasServerNotes {O : Type 0} (takes : O → List ℕ → O → Type 0) (failures : O → ℕ)
+    (json : List ℕ) (old new : O) : Type 0 where
+  pub middle : O
+  pub warnings : HasWarnings takes failures json old middle
+  pub notices : HasNotices takes failures middle new

@@ -1,7 +1,6 @@
 -- What `serve` writes, and why it fails.
 use Rattle.std.specs.Prelude.{◌≡◌, ◌<◌, ◌⊎◌, ℕ, true, IfSome, List, Option, bytes_eq, codes, is_some, string_bytes}
 use Rattle.tko_cli.specs.Announcements.{ready_text}
-use Rattle.tko_cli.specs.Notices.{HasNotices}
 use Rattle.tko_cli.specs.Planned.{IsServePlan, IsServerOf, NoPlan}
 use Rattle.tko_cli.specs.Totals.{totals_text}
 use Rattle.tko_commands.specs.declared.fault.Fault.{Fault}
@@ -76,12 +75,12 @@ pub data HasServeFailed {O : Type 0} (takes : O → List ℕ → O → Type 0) (
   Ready : takes from ready_text to → HasServeFailed takes failures from to
   NotReady : to ≡ from → HasServeFailed takes failures from to
 
--- nothing was noted, or a server that was ready to run failed and there are notices
+-- nothing was noted, or a server that was ready to run failed, and this was noted of it
 pub data IsSilentOrNoted {O F : Type 0} (takes : O → List ℕ → O → Type 0) (failures : O → ℕ)
-    (notes : F → List ℕ → F → Type 0) (faults : F → ℕ) (from to : O) (old new : F) : Type 0 where
-  Silent : new ≡ old → IsSilentOrNoted takes failures notes faults from to old new
-  WithNotices : HasServeFailed takes failures from to → HasNotices notes faults old new
-      → IsSilentOrNoted takes failures notes faults from to old new
+    (is_noted : F → F → Type 0) (from to : O) (old new : F) : Type 0 where
+  Silent : new ≡ old → IsSilentOrNoted takes failures is_noted from to old new
+  WithNotes : HasServeFailed takes failures from to → is_noted old new
+      → IsSilentOrNoted takes failures is_noted from to old new
 
 -- a line of its own says why there is this fault
 abbrev pub IsExplained : Fault → Type 0

@@ -1,10 +1,11 @@
 //! What `serve` says beside its totals and its fault.
 ghost use Rattle.std.specs.Prelude.{◌≡◌, ◌++◌, IfOk, OnOk};
-ghost use Rattle.tko_cli.specs.Notices.{HasNotice, HasNotices, notice_bytes, notice_line, use_text};
+ghost use Rattle.tko_cli.specs.Notices.{HasNotice, HasNotices, HasWarnings, notice_bytes, notice_line, use_text};
 
 use std::alloc::Global;
 use tko_bytes::NoMemory;
 use tko_commands::write_text;
+use tko_explain::warnings_of;
 use tko_io::{IoRuntime, Outlet};
 use tko_model::append_number;
 use tko_server::Allotment;
@@ -108,5 +109,20 @@ pub(crate) fn write_notice_if<R: IoRuntime, F: Outlet>(
 {
     if is_told {
         write_notice(rt, alloc, outlet, notice);
+    }
+}
+
+/// Writes what is warned of in the text of a configuration. It is left out where memory runs out
+/// for it, and a failure to write it is not reported.
+pub(crate) fn write_warnings<R: IoRuntime, F: Outlet>(
+    rt: &R,
+    alloc: Global,
+    outlet: &mut F,
+    json: &str,
+)
+    ensures { HasWarnings F.takes F.failures json.now outlet.old outlet.new }
+{
+    if let Ok(text) = warnings_of(alloc, json) {
+        let _ = write_text(rt, outlet, &text);
     }
 }

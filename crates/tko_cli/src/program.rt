@@ -1,7 +1,7 @@
 //! From the arguments to the status.
 ghost use Rattle.std.specs.Prelude.{◌≡◌, ◌<◌, ◌≤◌, IfErr, OnOk, map, string_bytes};
-ghost use Rattle.tko_cli.specs.Endings.{HasCommandFailed, HasNotServed, HasServedFor, IsCommandDone, IsFaultTold, ends};
-ghost use Rattle.tko_cli.specs.Notices.{HasNotices};
+ghost use Rattle.tko_cli.specs.Endings.{HasCommandFailed, HasNotServed, HasNotesFor, HasServedFor, IsCommandDone, IsFaultTold, ends};
+ghost use Rattle.tko_cli.specs.Notices.{HasServerNotes};
 ghost use Rattle.tko_cli.specs.Serving.{HasServedToEnd, ServeFails};
 
 use crate::demo::run_demo;
@@ -48,7 +48,7 @@ pub fn command<
         Ok(Asked::Replay) => run_replay(rt, alloc, input, output, faults),
         Ok(Asked::Serve(options)) => run_server(rt, alloc, options, output, faults),
         Ok(Asked::Demo(options)) => run_demo(rt, alloc, options, input, output, faults),
-        Ok(Asked::Check(options)) => run_check(rt, alloc, options, output, faults),
+        Ok(Asked::Check(options)) => run_check(rt, alloc, options, input, output, faults),
         Err(Refusal::Memory) => status_of(rt, alloc, faults, Err(Fault::Memory)),
         Err(Refusal::Wrong(text)) => refuse(rt, faults, text.as_str()),
         Err(Refusal::Answer(text)) => {
@@ -74,7 +74,8 @@ fn run_server<
     ensures status { result ≤ 1 }
     ensures done { result ≡ 0 → HasServedFor O.Outlet F.Outlet options
         (output.old, faults.old) (output.new, faults.new) }
-    ensures fault { result ≡ 1 → IsFaultTold O.takes O.failures F.takes F.failures
+    ensures fault { result ≡ 1 → IsFaultTold O.takes O.failures F.Outlet
+        (HasNotesFor F.Outlet options)
         (HasNotServed O.takes O.failures options output.old output.new)
         output.old output.new faults.old faults.new }
 {
@@ -99,8 +100,10 @@ fn serve_loaded<
 >(rt: &R, alloc: Global, options: &ServeOptions, output: &mut O, faults: &mut F) -> u8
     ensures status { result ≤ 1 }
     ensures done { result ≡ 0 → HasServedToEnd O.takes options.now output.old output.new }
-    ensures noted { result ≡ 0 → HasNotices F.takes F.failures faults.old faults.new }
-    ensures fault { result ≡ 1 → IsFaultTold O.takes O.failures F.takes F.failures
+    ensures noted { result ≡ 0 → HasServerNotes F.takes F.failures
+        (string_bytes options.now.config) faults.old faults.new }
+    ensures fault { result ≡ 1 → IsFaultTold O.takes O.failures F.Outlet
+        (HasServerNotes F.takes F.failures (string_bytes options.now.config))
         (ServeFails O.takes O.failures options.now output.old output.new)
         output.old output.new faults.old faults.new }
 {

@@ -1,14 +1,14 @@
 //! The command `serve`: a server over TCP, and its totals.
-ghost use Rattle.std.specs.Prelude.{◌≡◌, IfErr, IfOk, OnErr, OnOk};
+ghost use Rattle.std.specs.Prelude.{◌≡◌, IfErr, IfOk, OnErr, OnOk, string_bytes};
 ghost use Rattle.tko_cli.specs.Announcements.{IsReadyWritten};
-ghost use Rattle.tko_cli.specs.Notices.{HasNotices};
+ghost use Rattle.tko_cli.specs.Notices.{HasNotices, HasServerNotes};
 ghost use Rattle.tko_cli.specs.Serving.{HasServedToEnd, HasTotals, IsExplained, IsRunnable, IsSilentOrNoted, PreparedFails, ServeFails, TotalsFail, fault_of_server};
 ghost use Rattle.tko_cli.specs.Totals.{totals_text};
 ghost use Rattle.tko_server.specs.Closing.{HasServerEnded};
 ghost use Rattle.tko_server.specs.ServerRuns.{IsServerRun};
 
 use crate::announcement::{Announcement, give_back};
-use crate::notice::{Notice, write_notice, write_notice_if};
+use crate::notice::{Notice, write_notice, write_notice_if, write_warnings};
 use crate::open_files::has_no_memory_limit;
 use crate::prepared::{Prepared, prepare};
 use crate::totals::totals_lines;
@@ -24,8 +24,8 @@ use tko_server::{Announce, Ended, ServerRun, ServerRunFault, WorkerKind, WorkerR
 
 /// Serves clients over TCP until the last of the connections has ended, and then prints the totals.
 /// `ready` is printed once clients can connect: when each worker has asked for its first one.
-/// Before it a notice says what the server does with its descriptors, and before the totals notices
-/// say what the workers met.
+/// Before it come the warnings on the configuration and a notice of what the server does with its
+/// descriptors, and before the totals notices say what the workers met.
 pub(crate) fn serve<
     R: IoRuntime<Listener = TcpListener>
         + Threads
@@ -46,12 +46,15 @@ pub(crate) fn serve<
 ) -> Result<(), Fault>
     ensures ok { OnOk result (HasServedToEnd O.takes options.now output.old output.new) }
     ensures err { IfErr result (ServeFails O.takes O.failures options.now output.old output.new) }
-    ensures noted { OnOk result (HasNotices F.takes F.failures faults.old faults.new) }
-    ensures told { OnErr result (IsSilentOrNoted O.takes O.failures F.takes F.failures
+    ensures noted { OnOk result (HasServerNotes F.takes F.failures
+        (string_bytes options.now.config) faults.old faults.new) }
+    ensures told { OnErr result (IsSilentOrNoted O.takes O.failures
+        (HasServerNotes F.takes F.failures (string_bytes options.now.config))
         output.old output.new faults.old faults.new) }
     ensures refused { IfErr result (λ fault. IsExplained fault → faults.new ≡ faults.old) }
 {
     let prepared = prepare(rt, alloc, options)?;
+    write_warnings(rt, alloc, faults, options.config.as_str());
     note_memory(rt, alloc, faults);
     run_prepared(rt, alloc, prepared, output, faults)
 }

@@ -171,6 +171,8 @@ module _ {I O : Type 0} (inlet : InletGhosts I) (outlet : OutletGhosts O) where
       (outside_alone options name scripts asked unset, refl, refl)
   not_configured options here scripts fault.Memory asked none = at_first refl refl
   not_configured options here scripts fault.ConfigFile asked none = absurd none
+  not_configured options here scripts (fault.Against cause) asked none = absurd none
+  not_configured options here scripts (fault.KeysFile unread) asked none = absurd none
   not_configured options here scripts fault.Read asked none = absurd none
   not_configured options here scripts fault.Write asked none = absurd none
   not_configured options here scripts fault.LineTooLong asked none = absurd none
@@ -202,6 +204,8 @@ module _ {I O : Type 0} (inlet : InletGhosts I) (outlet : OutletGhosts O) where
   not_set options here scripts config fault.LineTooLong asked configured none = absurd none
   not_set options here scripts config (fault.Config cause) asked configured none = absurd none
   not_set options here scripts config fault.ConfigFile asked configured none = absurd none
+  not_set options here scripts config (fault.Against cause) asked configured none = absurd none
+  not_set options here scripts config (fault.KeysFile unread) asked configured none = absurd none
   not_set options here scripts config (fault.Outcomes number) asked configured none = absurd none
   not_set options here scripts config (fault.Line number) asked configured none = absurd none
   not_set options here scripts config fault.Check asked configured none = absurd none

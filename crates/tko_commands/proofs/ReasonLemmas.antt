@@ -30,6 +30,14 @@ config_reason takes failures json cause old new it =
     line_as takes failures (IsReasonOf json cause) (IsReasonFor (fault.Config cause)) old new
     (λ line good. (json, good)) it
 
+-- the same of the text that keys are compared with
+pub against_reason : {O : Type 0} (takes : O → List ℕ → O → Type 0) (failures : O → ℕ) (json : List ℕ)
+    (cause : ConfigFault) (old new : O) → HasLineOf takes failures (IsReasonOf json cause) old new
+    → HasLineOf takes failures (IsReasonFor (fault.Against cause)) old new
+against_reason takes failures json cause old new it =
+    line_as takes failures (IsReasonOf json cause) (IsReasonFor (fault.Against cause)) old new
+    (λ line good. (json, good)) it
+
 -- why a file cannot be read
 pub file_reason : {O : Type 0} (takes : O → List ℕ → O → Type 0) (failures : O → ℕ) (path : List ℕ)
     (old new : O) → HasLineOf takes failures (IsFileReason path) old new

@@ -1,6 +1,6 @@
 -- What a command did that was done, with the text of its configuration's file if its options name
 -- one.
-use Rattle.std.specs.Prelude.{ℕ, List, map, string_bytes}
+use Rattle.std.specs.Prelude.{ℕ, List, Option}
 use Rattle.tko_io.specs.declared.io.Inlet.{Ghosts as InletGhosts}
 use Rattle.tko_io.specs.declared.io.Outlet.{Ghosts as OutletGhosts}
 use Rattle.tko_options.specs.declared.check_options.CheckOptions.{CheckOptions}
@@ -17,9 +17,8 @@ pub record HasDried {I O : Type 0} (inlet : InletGhosts I) (outlet : OutletGhost
   pub dry : IsDry inlet outlet loaded old new
 
 -- a check of these options
-pub record HasCheckedAll {O : Type 0} (takes : O → List ℕ → O → Type 0) (options : CheckOptions)
-    (from to : O) : Type 0 where
+pub record HasCheckedAll {I F O : Type 0} (inlet : InletGhosts I) (left : F → Option (List ℕ))
+    (takes : O → List ℕ → O → Type 0) (options : CheckOptions) (old new : I × O) : Type 0 where
   pub loaded : CheckOptions
   pub text : IsLoadedCheck options loaded
-  pub checked : HasChecked takes (string_bytes loaded.config)
-      (map string_bytes loaded.keys.items) from to
+  pub checked : HasChecked inlet left takes loaded old new

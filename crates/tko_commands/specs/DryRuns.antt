@@ -210,6 +210,8 @@ module _ {I O : Type 0} (inlet : InletGhosts I) (outlet : OutletGhosts O)
   DryFails old new (fault.Line number) = ⊥
   DryFails old new fault.Check = ⊥
   DryFails old new fault.ConfigFile = ⊥
+  DryFails old new (fault.Against cause) = ⊥
+  DryFails old new (fault.KeysFile unread) = ⊥
   DryFails old new fault.Delays = ⊥
   DryFails old new (fault.Listen cause) = ⊥
   DryFails old new fault.Metrics = ⊥

@@ -10,6 +10,8 @@ use Rattle.tko_runs.specs.declared.schedule.fault.ScheduleFault.{ScheduleFault}
 use Rattle.tko_runs.specs.declared.schedule.fault.ScheduleFault.TheVariants as schedule_fault
 use Rattle.tko_session.specs.declared.fault.SessionFault.{SessionFault}
 use Rattle.tko_session.specs.declared.fault.SessionFault.TheVariants as session_fault
+use Rattle.tko_explain.specs.declared.keys_fault.KeysFault.{KeysFault}
+use Rattle.tko_explain.specs.declared.keys_fault.KeysFault.TheVariants as keys_fault
 use Rattle.tko_pools.specs.declared.fault.ConfigFault.{ConfigFault}
 use Rattle.tko_pools.specs.declared.fault.ConfigFault.TheVariants as config_fault
 use Rattle.tko_pools.specs.PoolKeys.{pool_key_word}
@@ -58,7 +60,9 @@ fault_line fault.LineTooLong = codes "fault: line too long"
 fault_line fault.Memory = codes "fault: memory"
 fault_line (fault.Settings name) = codes "fault: settings " ++ setting_name name
 fault_line (fault.Config cause) = codes "fault: config " ++ config_name cause
+fault_line (fault.Against cause) = codes "fault: against " ++ config_name cause
 fault_line fault.ConfigFile = codes "fault: config file"
+fault_line (fault.KeysFile unread) = codes "fault: keys file"
 fault_line (fault.Outcomes number) = codes "fault: outcomes " ++ decimal number
 fault_line (fault.Line number) = codes "fault: schedule line " ++ decimal number
 fault_line fault.Check = codes "fault: check"
@@ -84,6 +88,24 @@ fault_of_config config_fault.Route = fault.Config config_fault.Route
 fault_of_config (config_fault.NoSuchPool name) = fault.Config (config_fault.NoSuchPool name)
 fault_of_config config_fault.TooManyServers = fault.Config config_fault.TooManyServers
 fault_of_config config_fault.Memory = fault.Memory
+
+-- of the configuration that keys are compared with
+abbrev pub fault_of_other : ConfigFault → Fault
+fault_of_other config_fault.Json = fault.Against config_fault.Json
+fault_of_other config_fault.NoPools = fault.Against config_fault.NoPools
+fault_of_other (config_fault.EmptyPool name) = fault.Against (config_fault.EmptyPool name)
+fault_of_other (config_fault.Address text) = fault.Against (config_fault.Address text)
+fault_of_other (config_fault.SoftLimit name) = fault.Against (config_fault.SoftLimit name)
+fault_of_other (config_fault.PoolKey key name) = fault.Against (config_fault.PoolKey key name)
+fault_of_other config_fault.Route = fault.Against config_fault.Route
+fault_of_other (config_fault.NoSuchPool name) = fault.Against (config_fault.NoSuchPool name)
+fault_of_other config_fault.TooManyServers = fault.Against config_fault.TooManyServers
+fault_of_other config_fault.Memory = fault.Memory
+
+-- of counting a list of keys
+abbrev pub fault_of_keys : KeysFault → Fault
+fault_of_keys (keys_fault.Config cause) = fault_of_config cause
+fault_of_keys (keys_fault.Against cause) = fault_of_other cause
 
 -- of opening a tracker
 abbrev pub fault_of_opening : OpenFault → Fault

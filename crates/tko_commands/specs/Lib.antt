@@ -5,6 +5,7 @@ pub mod DryRuns
 pub mod FaultLines
 pub mod Faults
 pub mod Grouped
+pub mod KeyLists
 pub mod NotDone
 pub mod Outcomes
 pub mod Readings

@@ -1,6 +1,6 @@
 -- Why a command was not done: the file of its configuration cannot be read, and then nothing was
 -- read or written, or the command failed with the text of that file.
-use Rattle.std.specs.Prelude.{◌≡◌, ℕ, List, string_bytes}
+use Rattle.std.specs.Prelude.{◌≡◌, ℕ}
 use Rattle.tko_io.specs.declared.io.Inlet.{Ghosts as InletGhosts}
 use Rattle.tko_io.specs.declared.io.Outlet.{Ghosts as OutletGhosts}
 use Rattle.tko_options.specs.declared.check_options.CheckOptions.{CheckOptions}
@@ -19,9 +19,9 @@ pub data HasNotDried {I O : Type 0} (inlet : InletGhosts I) (outlet : OutletGhos
       → HasNotDried inlet outlet options old new fault
 
 -- by this fault a check of these options ended
-pub data HasNotChecked {O : Type 0} (failures : O → ℕ) (options : CheckOptions) (from to : O)
-    (fault : Fault) : Type 0 where
-  NoCheckFile : IsFileFault fault → to ≡ from → HasNotChecked failures options from to fault
+pub data HasNotChecked {I O : Type 0} (reads : I → ℕ) (writes : O → ℕ) (options : CheckOptions)
+    (old new : I × O) (fault : Fault) : Type 0 where
+  NoCheckFile : IsFileFault fault → new ≡ old → HasNotChecked reads writes options old new fault
   NotChecked : (loaded : CheckOptions) → IsLoadedCheck options loaded
-      → CheckFails failures (string_bytes loaded.config) from to fault
-      → HasNotChecked failures options from to fault
+      → CheckFails reads writes loaded old new fault
+      → HasNotChecked reads writes options old new fault

@@ -1,11 +1,12 @@
 -- The line that says why in words, before the line of a fault.
-use Rattle.std.specs.Prelude.{◌≡◌, ◌<◌, ℕ, List, ◌++◌, None, codes}
+use Rattle.std.specs.Prelude.{◌≡◌, ◌<◌, ℕ, List, ◌++◌, None, codes, is_some, string_bytes, true}
 use Rattle.tko_explain.specs.Reasons.{IsReasonOf}
 use Rattle.tko_pools.specs.declared.fault.ConfigFault.{ConfigFault}
 use Rattle.tko_commands.specs.Faults.{listen_words}
 use Rattle.tko_commands.specs.declared.fault.Fault.{Fault}
 use Rattle.tko_commands.specs.declared.fault.Fault.TheVariants as fault
 use Rattle.tko_commands.specs.declared.listen_fault.ListenFault.{ListenFault}
+use Rattle.tko_commands.specs.declared.unread_keys.UnreadKeys.{UnreadKeys}
 use Rattle.tko_options.specs.declared.check_options.CheckOptions.{CheckOptions}
 use Rattle.tko_options.specs.declared.dry_options.DryOptions.{DryOptions}
 use Rattle.tko_options.specs.declared.serve_options.ServeOptions.{ServeOptions}
@@ -14,6 +15,12 @@ use Rattle.tko_options.specs.declared.serve_options.ServeOptions.{ServeOptions}
 pub record IsFileReason (path line : List ℕ) : Type 0 where
   pub detail : List ℕ
   pub is : line ≡ codes "config: " ++ path ++ codes ": " ++ detail ++ codes "\n"
+
+-- the file of a list of keys cannot be read: its path, and what the system says
+abbrev pub IsKeysReason : UnreadKeys → List ℕ → Type 0
+IsKeysReason unread line =
+    line ≡ codes "keys: " ++ string_bytes unread.path ++ codes ": " ++ string_bytes unread.words
+    ++ codes "\n"
 
 -- nothing can listen at an address, for this cause
 abbrev pub IsListenReason : ListenFault → List ℕ → List ℕ → Type 0
@@ -24,7 +31,9 @@ IsListenReason cause address line =
 -- file cannot be read, or why nothing can listen at which address. No other fault has one.
 abbrev pub IsReasonFor : Fault → List ℕ → Type 0
 IsReasonFor (fault.Config cause) line = (json : List ℕ) × IsReasonOf json cause line
+IsReasonFor (fault.Against cause) line = (json : List ℕ) × IsReasonOf json cause line
 IsReasonFor fault.ConfigFile line = (path : List ℕ) × IsFileReason path line
+IsReasonFor (fault.KeysFile unread) line = IsKeysReason unread line
 IsReasonFor (fault.Listen cause) line = (address : List ℕ) × IsListenReason cause address line
 IsReasonFor other line = ⊥
 
@@ -51,7 +60,10 @@ pub record IsLoadedServer (options loaded : ServeOptions) : Type 0 where
   pub others : loaded ≡ record options { config = loaded.config }
   pub alone : options.config_file ≡ None → loaded.config ≡ options.config
 
--- the options of a check with the text of their file, if they name one
+-- the options of a check with the text of their file, if they name one, and that of the file of the
+-- configuration to compare with, if they name one
 pub record IsLoadedCheck (options loaded : CheckOptions) : Type 0 where
-  pub others : loaded ≡ record options { config = loaded.config }
+  pub others : loaded ≡ record options { config = loaded.config; against = loaded.against }
   pub alone : options.config_file ≡ None → loaded.config ≡ options.config
+  pub uncompared : options.against_file ≡ None → loaded.against ≡ options.against
+  pub compared : is_some options.against_file ≡ true → is_some loaded.against ≡ true

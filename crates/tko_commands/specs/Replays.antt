@@ -60,6 +60,8 @@ module _ {I O : Type 0} (gives : I → List ℕ → I → Type 0) (is_ended : I 
   ReplayFails old new from to (fault.Outcomes number) = ⊥
   ReplayFails old new from to (fault.Config cause) = ⊥
   ReplayFails old new from to fault.ConfigFile = ⊥
+  ReplayFails old new from to (fault.Against cause) = ⊥
+  ReplayFails old new from to (fault.KeysFile unread) = ⊥
   ReplayFails old new from to fault.Delays = ⊥
   ReplayFails old new from to (fault.Listen cause) = ⊥
   ReplayFails old new from to fault.Metrics = ⊥

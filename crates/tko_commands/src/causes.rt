@@ -6,6 +6,7 @@ use crate::reading::InputFault;
 use crate::writing::WriteFault;
 use std::alloc::AllocError;
 use tko_bytes::NoMemory;
+use tko_explain::KeysFault;
 use tko_model::{OpenFault, SettingsFault};
 use tko_pools::ConfigFault;
 use tko_runs::{RunFault, ScheduleFault};
@@ -21,6 +22,21 @@ impl From<ConfigFault> for Fault {
         match cause {
             ConfigFault::Memory => Fault::Memory,
             cause => Fault::Config(cause),
+        }
+    }
+}
+
+impl From<KeysFault> for Fault {
+    ghost use Rattle.tko_commands.specs.Faults.{fault_of_keys};
+    ghost use Rattle.std.specs.Prelude.{◌≡◌};
+
+    ghost from_gives = { λ cause fault. fault ≡ fault_of_keys cause };
+
+    fn from(cause: KeysFault) -> Fault {
+        match cause {
+            KeysFault::Config(cause) => Fault::from(cause),
+            KeysFault::Against(ConfigFault::Memory) => Fault::Memory,
+            KeysFault::Against(cause) => Fault::Against(cause),
         }
     }
 }

@@ -2,7 +2,7 @@
 ghost use Rattle.std.specs.Prelude.{◌≡◌};
 ghost use Rattle.tko_commands.specs.Faults.{config_name, setting_name};
 
-use crate::ListenFault;
+use crate::{ListenFault, UnreadKeys};
 use std::error::Error;
 use std::fmt;
 use tko_model::SettingsFault;
@@ -18,8 +18,12 @@ pub enum Fault {
     Settings(SettingsFault),
     /// Why the text is no configuration.
     Config(ConfigFault),
+    /// Why the text of the configuration that keys are compared with is none.
+    Against(ConfigFault),
     /// The file of the configuration cannot be read.
     ConfigFile,
+    /// The file of the list of keys cannot be read.
+    KeysFile(UnreadKeys),
     /// The number of the first bad word of `--outcomes`, counted from 1.
     Outcomes(usize),
     /// The number of a schedule's first bad line, counted from 1; 0 where the text is too long.
@@ -56,7 +60,12 @@ impl fmt::Display for Fault {
                 let name = config_name(cause);
                 write!(f, "fault: config {name}")
             }
+            Fault::Against(cause) => {
+                let name = config_name(cause);
+                write!(f, "fault: against {name}")
+            }
             Fault::ConfigFile => f.write_str("fault: config file"),
+            Fault::KeysFile(_) => f.write_str("fault: keys file"),
             Fault::Outcomes(number) => write!(f, "fault: outcomes {number}"),
             Fault::Line(number) => write!(f, "fault: schedule line {number}"),
             Fault::Check => f.write_str("fault: check"),

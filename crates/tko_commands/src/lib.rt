@@ -12,6 +12,7 @@ mod configured;
 mod dry;
 mod fault;
 mod grouped;
+mod key_lists;
 mod listen_fault;
 mod loading;
 mod outcomes;
@@ -20,6 +21,7 @@ mod reasons;
 mod replay;
 mod status;
 mod trail_lines;
+mod unread_keys;
 mod writing;
 
 pub use fault::Fault;
@@ -29,4 +31,5 @@ pub use loading::loaded_server;
 pub use status::{
     DONE, fail, refuse_config, refuse_listen, run_check, run_dry, run_replay, status_of,
 };
+pub use unread_keys::UnreadKeys;
 pub use writing::{WriteFault, write_text};

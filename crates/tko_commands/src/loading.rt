@@ -1,5 +1,5 @@
 //! The file of a configuration.
-ghost use Rattle.std.specs.Prelude.{◌≡◌, None, Ok, IfOk, IfErr, OnOk};
+ghost use Rattle.std.specs.Prelude.{◌≡◌, None, Ok, IfOk, IfErr, OnOk, is_some};
 ghost use Rattle.tko_commands.specs.Reasons.{HasLineOf, IsFileFault, IsFileReason, IsLoadedCheck, IsLoadedDry, IsLoadedServer, IsReasonFor};
 
 use crate::Fault;
@@ -49,7 +49,8 @@ pub fn loaded_server<R: IoRuntime + Files, F: Outlet>(
     Ok(options)
 }
 
-/// The options, with the text of their configuration's file in the place of the configuration.
+/// The options, with the text of their configuration's file in the place of the configuration, and
+/// that of the file of the one to compare with in the place of that.
 pub(crate) fn loaded_check<R: IoRuntime + Files, F: Outlet>(
     rt: &R,
     alloc: Global,
@@ -65,6 +66,9 @@ pub(crate) fn loaded_check<R: IoRuntime + Files, F: Outlet>(
     if let Some(json) = load(rt, alloc, &options.config_file, faults)? {
         options.config = json;
     }
+    if let Some(json) = load(rt, alloc, &options.against_file, faults)? {
+        options.against = Some(json);
+    }
     Ok(options)
 }
 
@@ -77,6 +81,7 @@ fn load<R: IoRuntime + Files, F: Outlet>(
     faults: &mut F,
 ) -> Result<Option<String>, Fault>
     ensures alone { path.now ≡ None → (result ≡ Ok None) }
+    ensures given { IfOk result (λ text. is_some text ≡ is_some path.now) }
     ensures kept { OnOk result (faults.new ≡ faults.old) }
     ensures err { IfErr result IsFileFault }
     ensures told { IfErr result (λ fault.

@@ -1,10 +1,10 @@
 //! Why there is a fault, in a line before that of the fault.
 ghost use Rattle.std.specs.Prelude.{◌++◌, ◌≡◌, IfOk, codes};
 ghost use Rattle.tko_explain.specs.Reasons.{IsReasonOf};
-ghost use Rattle.tko_commands.specs.Reasons.{HasLineOf, IsListenReason};
+ghost use Rattle.tko_commands.specs.Reasons.{HasLineOf, IsKeysReason, IsListenReason};
 
-use crate::ListenFault;
 use crate::writing::write_text;
+use crate::{ListenFault, UnreadKeys};
 use std::alloc::Global;
 use tko_bytes::NoMemory;
 use tko_explain::reason;
@@ -23,6 +23,22 @@ pub(crate) fn write_config_reason<R: IoRuntime, F: Outlet>(
     ensures { HasLineOf F.takes F.failures (IsReasonOf json.now cause.now) faults.old faults.new }
 {
     if let Ok(line) = reason(alloc, json.as_bytes(), cause) {
+        let _ = write_text(rt, faults, &line);
+    }
+}
+
+/// Writes why the file of a list of keys cannot be read. The line is left out where memory runs out
+/// for it, and a failure to write it is not reported.
+pub(crate) fn write_keys_reason<R: IoRuntime, F: Outlet>(
+    rt: &R,
+    alloc: Global,
+    faults: &mut F,
+    unread: &UnreadKeys,
+)
+    ensures { HasLineOf F.takes F.failures (IsKeysReason unread.now) faults.old faults.new }
+{
+    let (path, words) = (unread.path.as_str(), unread.words.as_str());
+    if let Ok(line) = reason_line(alloc, b"keys: ", path, words) {
         let _ = write_text(rt, faults, &line);
     }
 }

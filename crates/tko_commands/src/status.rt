@@ -7,11 +7,12 @@ ghost use Rattle.tko_commands.specs.Replays.{ReplayFails, ReplaysSchedule};
 
 use crate::checking::check;
 use crate::dry::dry;
+use crate::key_lists::against_of;
 use crate::loading::{loaded_check, loaded_dry};
-use crate::reasons::{write_config_reason, write_listen_reason};
+use crate::reasons::{write_config_reason, write_keys_reason, write_listen_reason};
 use crate::replay::replay;
 use crate::writing::{WriteFault, write_text};
-use crate::{Fault, ListenFault};
+use crate::{Fault, ListenFault, UnreadKeys};
 use std::alloc::Global;
 use std::fs::Files;
 use tko_io::{Inlet, IoRuntime, Outlet};
@@ -77,27 +78,50 @@ pub fn run_replay<R: IoRuntime, I: Inlet, O: Outlet, F: Outlet>(
     status_of(rt, alloc, faults, done)
 }
 
-/// Checks a configuration, and returns the status.
-pub fn run_check<R: IoRuntime + Files, O: Outlet, F: Outlet>(
+/// Checks a configuration, and returns the status. The input is read only for a list of keys.
+pub fn run_check<R: IoRuntime + Files, I: Inlet, O: Outlet, F: Outlet>(
     rt: &R,
     alloc: Global,
     options: CheckOptions,
+    input: &mut I,
     output: &mut O,
     faults: &mut F,
 ) -> u8
     ensures status { result ≤ 1 }
-    ensures check { result ≡ 0 → HasCheckedAll O.takes options output.old output.new }
+    ensures check { result ≡ 0 → HasCheckedAll I.Inlet R.File.remaining O.takes options
+        (input.old, output.old) (input.new, output.new) }
     ensures done { result ≡ 0 → faults.new ≡ faults.old }
     ensures fault { result ≡ 1 → IsReasonTold F.takes F.failures
-        (HasNotChecked O.failures options output.old output.new) faults.old faults.new }
+        (HasNotChecked I.failures O.failures options
+        (input.old, output.old) (input.new, output.new)) faults.old faults.new }
 {
     match loaded_check(rt, alloc, options, faults) {
         Ok(options) => {
-            let json = options.config.as_str();
-            let done = check(rt, alloc, json, &options.keys, output);
-            status_over(rt, alloc, faults, json, done)
+            let done = check(rt, alloc, &options, input, output);
+            status_of_check(rt, alloc, faults, &options, done)
         }
         Err(fault) => fail(rt, alloc, faults, fault),
+    }
+}
+
+/// The status of a check of these options, which wrote nothing to `faults`. Its fault is reported,
+/// and before it why a text is no configuration, or a file cannot be read.
+fn status_of_check<R: IoRuntime, F: Outlet>(
+    rt: &R,
+    alloc: Global,
+    faults: &mut F,
+    options: &CheckOptions,
+    done: Result<(), Fault>,
+) -> u8
+    ensures status { result ≤ 1 }
+    ensures ok { result ≡ 0 → IsOk done }
+    ensures done { result ≡ 0 → faults.new ≡ faults.old }
+    ensures fault { result ≡ 1 → IsReasonTold F.takes F.failures
+        (λ fault. done ≡ Err fault) faults.old faults.new }
+{
+    match done {
+        Err(Fault::Against(cause)) => refuse_against(rt, alloc, faults, options, cause),
+        done => status_over(rt, alloc, faults, options.config.as_str(), done),
     }
 }
 
@@ -121,7 +145,7 @@ pub fn status_of<R: IoRuntime, F: Outlet>(
 }
 
 /// The status of a command over this text of a configuration, which wrote nothing to `faults`. Its
-/// fault is reported, and before it why the text is no configuration.
+/// fault is reported, and before it why the text is no configuration, or a file cannot be read.
 fn status_over<R: IoRuntime, F: Outlet>(
     rt: &R,
     alloc: Global,
@@ -137,6 +161,7 @@ fn status_over<R: IoRuntime, F: Outlet>(
 {
     match done {
         Err(Fault::Config(cause)) => refuse_config(rt, alloc, faults, json, cause),
+        Err(Fault::KeysFile(unread)) => refuse_keys(rt, alloc, faults, unread),
         done => status_of(rt, alloc, faults, done),
     }
 }
@@ -155,6 +180,38 @@ pub fn refuse_config<R: IoRuntime, F: Outlet>(
 {
     write_config_reason(rt, alloc, faults, json, &cause);
     fail(rt, alloc, faults, Fault::Config(cause))
+}
+
+/// Reports why the text that keys are compared with is no configuration, and then the fault.
+/// Returns its status.
+fn refuse_against<R: IoRuntime, F: Outlet>(
+    rt: &R,
+    alloc: Global,
+    faults: &mut F,
+    options: &CheckOptions,
+    cause: ConfigFault,
+) -> u8
+    ensures status { result ≡ 1 }
+    ensures fault { IsReasonTold F.takes F.failures (λ fault. fault ≡ Fault.Against cause)
+        faults.old faults.new }
+{
+    write_config_reason(rt, alloc, faults, against_of(options).unwrap_or(""), &cause);
+    fail(rt, alloc, faults, Fault::Against(cause))
+}
+
+/// Reports why the file of a list of keys cannot be read, and then the fault. Returns its status.
+fn refuse_keys<R: IoRuntime, F: Outlet>(
+    rt: &R,
+    alloc: Global,
+    faults: &mut F,
+    unread: UnreadKeys,
+) -> u8
+    ensures status { result ≡ 1 }
+    ensures fault { IsReasonTold F.takes F.failures (λ fault. fault ≡ Fault.KeysFile unread)
+        faults.old faults.new }
+{
+    write_keys_reason(rt, alloc, faults, &unread);
+    fail(rt, alloc, faults, Fault::KeysFile(unread))
 }
 
 /// Reports why nothing can listen at an address, and then the fault. Returns its status.

@@ -5,7 +5,7 @@ use Rattle.clap.specs.Words.{one_text}
 use Rattle.clap.specs.declared.parser.matches.ArgMatches.{ArgMatches}
 use Rattle.clap.specs.declared.parser.matches.Found.{Found}
 use Rattle.tko_options.specs.Found.{AreFound, IsNumberAt, is_log_place}
-use Rattle.tko_options.specs.Misfits.{AreUnfit, ClientsInThreads, HasNoKey, IsMisfit, IsMisread, IsRefusedAs, IsRefusedFor, IsUnfit, KeysInThreads, LogNowhere}
+use Rattle.tko_options.specs.Misfits.{AreUnfit, ClientsInThreads, IsCheckMisfit, IsMisfit, IsMisread, IsRefusedAs, IsRefusedFor, IsUnfit, KeysInThreads, LogNowhere}
 use Rattle.tko_options.specs.Modes.{may_ask, may_limit, mode_at}
 use Rattle.tko_options.proofs.FitLemmas.{grouped_misfit}
 use Rattle.tko_options.specs.declared.mode.Mode.{Mode}
@@ -27,11 +27,11 @@ pub unfit_command : (matches : ArgMatches) (found : Found) (why : Refusal) → I
 unfit_command matches found why unfit next =
     refused_for (IsMisfit found) (IsMisread matches) why next unfit
 
--- the same of `check`, whose keys are wrong
-pub bad_key : (matches : ArgMatches) (found : Found) (why : Refusal) → IsRefusedAs (HasNoKey found) why
-    → (HasNoKey found → IsMisread matches) → IsRefusedFor matches why
-bad_key matches found why refused next =
-    refused_for (HasNoKey found) (IsMisread matches) why next refused
+-- the same of `check`
+pub unfit_check : (matches : ArgMatches) (found : Found) (why : Refusal) → IsRefusedAs (IsCheckMisfit found) why
+    → (IsCheckMisfit found → IsMisread matches) → IsRefusedFor matches why
+unfit_check matches found why refused next =
+    refused_for (IsCheckMisfit found) (IsMisread matches) why next refused
 
 -- where clients have a limit, it was given
 limit_given : (named : Mode) (clients : Option ℕ) (text : Option (List ℕ))

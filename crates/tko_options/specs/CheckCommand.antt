@@ -8,7 +8,18 @@ use Rattle.tko_options.specs.CommandLine.{config_file_option, required_config, t
 abbrev pub key_option : Rule
 key_option = record (text_option (codes "key")) { action = Some Append }
 
+-- `--keys-from FILE`
+abbrev pub keys_from_option : Rule
+keys_from_option = text_option (codes "keys-from")
+
+-- `--against FILE`
+abbrev pub against_option : Rule
+against_option = text_option (codes "against")
+
+-- the keys whose servers are asked for
+abbrev pub with_keys : App → App
+with_keys app = with_rule (with_rule (with_rule app key_option) keys_from_option) against_option
+
 abbrev pub check_command : App
 check_command =
-    with_rule (with_rule (with_rule (new_app (codes "check")) required_config) config_file_option)
-    key_option
+    with_keys (with_rule (with_rule (new_app (codes "check")) required_config) config_file_option)

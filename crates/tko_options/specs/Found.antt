@@ -1,5 +1,5 @@
 -- The options of the commands, as clap read them.
-use Rattle.std.specs.Prelude.{◌≡◌, ◌<◌, ◌^◌, ℕ, Bool, true, false, ◌||◌, List, [], Option, Some, None, bytes_eq, codes, map, option_map, string_bytes, unwrap_or}
+use Rattle.std.specs.Prelude.{◌≡◌, ◌<◌, ◌^◌, ℕ, Bool, true, false, ◌||◌, List, [], Option, Some, None, bytes_eq, codes, is_some, map, option_map, string_bytes, unwrap_or}
 use Rattle.std.specs.List.{list_all}
 use Rattle.std.specs.Str.Parse.{IsNumeral, digits_value, without_leading_plus}
 use Rattle.clap.specs.Words.{first_value, matched_of, one_text, raw_values}
@@ -61,13 +61,30 @@ pub record AreDryFound (found : Found) (options : DryOptions) : Type 0 where
 abbrev pub has_keys : Found → Bool
 has_keys found = list_all is_key (texts_at found (codes "key"))
 
--- each option of `check` is what clap read for its name, and each key is one
+-- whether a configuration to compare with is given, if at all, beside a list of keys
+abbrev pub may_compare : Option (List ℕ) → Option (List ℕ) → Bool
+may_compare None keys_from = true
+may_compare (Some against) keys_from = is_some keys_from
+
+-- whether the options of the words may compare
+abbrev pub compares_lists : Found → Bool
+compares_lists found =
+    may_compare (first_value found (codes "against")) (first_value found (codes "keys-from"))
+
+-- each option of `check` is what clap read for its name, each key is one, and a configuration to
+-- compare with is given only beside a list of keys
 pub record AreCheckFound (found : Found) (options : CheckOptions) : Type 0 where
   pub config : IsTextAt found (codes "config") (string_bytes options.config)
   pub config_file :
       option_map string_bytes options.config_file ≡ first_value found (codes "config-file")
   pub keys : map string_bytes options.keys.items ≡ texts_at found (codes "key")
+  pub keys_from :
+      option_map string_bytes options.keys_from ≡ first_value found (codes "keys-from")
+  pub against : options.against ≡ None
+  pub against_file :
+      option_map string_bytes options.against_file ≡ first_value found (codes "against")
   pub are_keys : has_keys found ≡ true
+  pub compares : compares_lists found ≡ true
 
 -- the option of `demo` is what clap read for its name
 abbrev pub AreDemoFound : Found → DemoOptions → Type 0

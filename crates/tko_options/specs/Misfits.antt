@@ -4,7 +4,7 @@ use Rattle.clap.specs.Words.{HasMatchesOf, first_value, one_text, subcommand_nam
 use Rattle.clap.specs.declared.parser.matches.ArgMatches.{ArgMatches}
 use Rattle.clap.specs.declared.parser.matches.Found.{Found}
 use Rattle.tko_options.specs.Commands.{IsCommandWith}
-use Rattle.tko_options.specs.Found.{IsNumberAt, IsSwitchAt, has_keys, is_log_place}
+use Rattle.tko_options.specs.Found.{IsNumberAt, IsSwitchAt, compares_lists, has_keys, is_log_place}
 use Rattle.tko_options.specs.Modes.{may_ask, may_group, may_limit, mode_at}
 use Rattle.tko_options.specs.Program.{program_app}
 use Rattle.tko_options.specs.declared.mode.Mode.TheVariants as mode
@@ -46,9 +46,10 @@ IsRefusedAs reason refusal.Memory = Unit {0}
 abbrev pub IsUnfit : Found → Refusal → Type 0
 IsUnfit found = IsRefusedAs (IsMisfit found)
 
--- a key of `check` is none of the protocol
-abbrev pub HasNoKey : Found → Type 0
-HasNoKey found = has_keys found ≡ false
+-- what is wrong with the options of `check`: a key is none of the protocol, or a configuration to
+-- compare with is given without a list of keys
+abbrev pub IsCheckMisfit : Found → Type 0
+IsCheckMisfit found = (has_keys found ≡ false) ⊎ (compares_lists found ≡ false)
 
 -- what is wrong with a command: there is none, or the options of `serve` or `check` are wrong
 pub data IsMisread (matches : ArgMatches) : Type 0 where
@@ -58,7 +59,7 @@ pub data IsMisread (matches : ArgMatches) : Type 0 where
       → subcommand_name_of matches ≢ Some (codes "serve")
       → subcommand_name_of matches ≢ Some (codes "check") → IsMisread matches
   Unfit : IsCommandWith (codes "serve") IsMisfit matches → IsMisread matches
-  BadKey : IsCommandWith (codes "check") HasNoKey matches → IsMisread matches
+  UnfitCheck : IsCommandWith (codes "check") IsCheckMisfit matches → IsMisread matches
 
 -- it is refused for that
 abbrev pub IsRefusedFor : ArgMatches → Refusal → Type 0

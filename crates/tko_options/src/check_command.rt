@@ -1,7 +1,7 @@
 //! The command `check` as clap reads it.
 ghost use Rattle.std.specs.Prelude.{◌≡◌, false, IfOk};
 ghost use Rattle.clap.specs.Words.{App, rule_of};
-ghost use Rattle.tko_options.specs.CheckCommand.{check_command, key_option};
+ghost use Rattle.tko_options.specs.CheckCommand.{against_option, check_command, key_option, keys_from_option, with_keys};
 ghost use Rattle.tko_options.specs.CommandLine.{ReadsAs};
 
 use crate::command_line::text;
@@ -12,6 +12,7 @@ use std::alloc::{AllocError, Global};
 const CHECK_HELP: &str = "\
 Example:
   tkoproxy check --config-file pools.json --key a --key b
+  tkoproxy check --config-file new.json --keys-from keys.txt --against pools.json
 
 Exit status:
   0  the configuration is valid, and is printed, with its warnings
@@ -21,12 +22,22 @@ Exit status:
 pub(crate) fn check<'a>(alloc: Global) -> Result<Command<'a>, AllocError>
     ensures { IfOk result (ReadsAs check_command) }
 {
-    Command::new(alloc, "check")
+    let check = Command::new(alloc, "check")
         .about("Checks a configuration and prints its servers, its pools and its route")
         .after_help(CHECK_HELP)
         .arg(config(alloc)?)?
-        .arg(required_file(alloc)?)?
-        .arg(key(alloc))
+        .arg(required_file(alloc)?)?;
+    with_keys(alloc, check)
+}
+
+/// With the keys whose servers are asked for.
+fn with_keys<'a>(alloc: Global, command: Command<'a>) -> Result<Command<'a>, AllocError>
+    ensures { (app : App) → ReadsAs app command.entry → IfOk result (ReadsAs (with_keys app)) }
+{
+    command
+        .arg(key(alloc))?
+        .arg(keys_from(alloc))?
+        .arg(against(alloc))
 }
 
 /// `--key KEY`, as often as there are keys.
@@ -36,5 +47,27 @@ fn key<'a>(alloc: Global) -> Arg<'a>
 {
     text(alloc, "key", "KEY").action(ArgAction::Append).help(
         "Also prints the servers that this key tries, in order; may be given several times",
+    )
+}
+
+/// `--keys-from FILE`.
+fn keys_from<'a>(alloc: Global) -> Arg<'a>
+    ensures rule { rule_of result ≡ keys_from_option }
+    ensures local { result.global ≡ false }
+{
+    text(alloc, "keys-from", "FILE").help(
+        "Also counts the keys of this file, one a line, by the server that each pool has for them; \
+             - is standard input",
+    )
+}
+
+/// `--against FILE`.
+fn against<'a>(alloc: Global) -> Arg<'a>
+    ensures rule { rule_of result ≡ against_option }
+    ensures local { result.global ≡ false }
+{
+    text(alloc, "against", "FILE").help(
+        "Also counts, with --keys-from, the keys that each pool has at another server than the \
+             pool of that name in this configuration",
     )
 }

@@ -6,7 +6,7 @@ use Rattle.tko_commands.specs.NotDone.{HasNotChecked, HasNotDried}
 use Rattle.tko_commands.specs.Replays.{ReplayFails}
 use Rattle.tko_options.specs.declared.asked.Asked.TheVariants as asked
 use Rattle.tko_options.specs.declared.refusal.Refusal.TheVariants as refusal
-use Rattle.tko_cli.specs.Endings.{AfterReason, Checked, Demonstrated, Dried, HasNotServed, IsNotDone, NotCheckedFor, NotDemonstrated, NotDriedFor, NotRead, NotReplayed, NotServedFor, NotShown, Served, Shown, WithFault}
+use Rattle.tko_cli.specs.Endings.{AfterReason, Checked, Demonstrated, Dried, HasNotServed, HasNotesFor, HasNotesOf, IsNotDone, NotCheckedFor, NotDemonstrated, NotDriedFor, NotRead, NotReplayed, NotServedFor, NotShown, Served, Shown, WithFault}
 use Rattle.tko_cli.proofs.EndingLemmas.{asked_of, fault_as, refused_of}
 use Rattle.tko_cli.proofs.program.command.Goals as goal
 
@@ -25,8 +25,8 @@ returns-in-Ok-Serve-clause-done g c = λ is.
 pub returns-in-Ok-Check-clause-done : goal.returns-in-Ok-Check-clause-done
 returns-in-Ok-Check-clause-done g c = λ is.
     let options = c.in-Ok-Check.options in
-    Checked options (asked_of c.read.result _ (asked.Check options) (search rules) c.read.ensures.read)
-    (c.run_check.ensures.check is) refl (c.run_check.ensures.done is)
+    Checked _ options (asked_of c.read.result _ (asked.Check options) (search rules) c.read.ensures.read)
+    (c.run_check.ensures.check is) (c.run_check.ensures.done is)
 
 pub returns-in-Ok-Demo-clause-done : goal.returns-in-Ok-Demo-clause-done
 returns-in-Ok-Demo-clause-done g c = λ is.
@@ -66,9 +66,11 @@ returns-in-Ok-Serve-clause-fault g c = λ is.
     let options = c.in-Ok-Serve.options in
     let words = map string_bytes c.args.words.now in
     let asked_is = asked_of c.read.result _ (asked.Serve options) (search rules) c.read.ensures.read in
-    WithFault (fault_as g.O.Outlet.takes g.O.Outlet.failures g.F.Outlet.takes g.F.Outlet.failures
+    WithFault (fault_as g.O.Outlet.takes g.O.Outlet.failures g.F.Outlet
+    (HasNotesFor g.F.Outlet options) (HasNotesOf g.F.Outlet words)
     (HasNotServed g.O.Outlet.takes g.O.Outlet.failures options c.args.output.now c.run_server.new.output)
     (IsNotDone g.I.Inlet g.O.Outlet words (c.args.input.now, c.args.output.now) (c.args.input.now, c.run_server.new.output)) c.args.output.now c.run_server.new.output c.args.faults.now c.run_server.new.faults
+    (λ middle noted. record { options = options; asked = asked_is; noted = noted })
     (λ reason why. NotServedFor options asked_is why refl) (c.run_server.ensures.fault is))
 
 pub returns-in-Ok-Check-clause-fault : goal.returns-in-Ok-Check-clause-fault
@@ -77,9 +79,9 @@ returns-in-Ok-Check-clause-fault g c = λ is.
     let words = map string_bytes c.args.words.now in
     let asked_is = asked_of c.read.result _ (asked.Check options) (search rules) c.read.ensures.read in
     WithFault (AfterReason (told_as g.F.Outlet.takes g.F.Outlet.failures
-    (HasNotChecked g.O.Outlet.failures options c.args.output.now c.run_check.new.output)
-    (IsNotDone g.I.Inlet g.O.Outlet words (c.args.input.now, c.args.output.now) (c.args.input.now, c.run_check.new.output)) c.args.faults.now c.run_check.new.faults
-    (λ reason why. NotCheckedFor options asked_is why refl) (c.run_check.ensures.fault is)))
+    (HasNotChecked g.I.Inlet.failures g.O.Outlet.failures options (c.args.input.now, c.args.output.now) (c.run_check.new.input, c.run_check.new.output))
+    (IsNotDone g.I.Inlet g.O.Outlet words (c.args.input.now, c.args.output.now) (c.run_check.new.input, c.run_check.new.output)) c.args.faults.now c.run_check.new.faults
+    (λ reason why. NotCheckedFor options asked_is why) (c.run_check.ensures.fault is)))
 
 pub returns-in-Err-Memory-clause-fault : goal.returns-in-Err-Memory-clause-fault
 returns-in-Err-Memory-clause-fault g c = λ is.

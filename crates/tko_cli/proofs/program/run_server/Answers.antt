@@ -1,6 +1,7 @@
-use Rattle.std.proofs.Common.{refl}
+use Rattle.std.proofs.Common.{refl, string_bytes}
 use Rattle.tko_cli.proofs.EndingLemmas.{fault_as}
-use Rattle.tko_cli.specs.Endings.{AfterReason, HasNotServed, NoServerFile, NotServed}
+use Rattle.tko_cli.specs.Endings.{AfterReason, HasNotServed, HasNotesFor, NoServerFile, NotServed}
+use Rattle.tko_cli.specs.Notices.{HasServerNotes}
 use Rattle.tko_cli.specs.Serving.{ServeFails}
 use Rattle.tko_commands.proofs.ReasonLemmas.{told_with}
 use Rattle.tko_cli.proofs.program.run_server.Goals as goal
@@ -25,9 +26,12 @@ returns-in-Ok-clause-fault g c = λ is.
     let from = c.args.output.now in
     let to = c.serve_loaded.new.output in
     rw c.in-Ok.ensures.kept at
-    (fault_as g.O.Outlet.takes g.O.Outlet.failures g.F.Outlet.takes g.F.Outlet.failures
+    (fault_as g.O.Outlet.takes g.O.Outlet.failures g.F.Outlet
+    (HasServerNotes g.F.Outlet.takes g.F.Outlet.failures (string_bytes c.in-Ok.options.config))
+    (HasNotesFor g.F.Outlet c.args.options)
     (ServeFails g.O.Outlet.takes g.O.Outlet.failures c.in-Ok.options from to)
     (HasNotServed g.O.Outlet.takes g.O.Outlet.failures c.args.options from to) from to
     c.loaded_server.new.faults c.serve_loaded.new.faults
+    (λ middle noted. record { loaded = c.in-Ok.options; text = c.in-Ok.ensures.ok; noted = noted })
     (λ fault fails. NotServed c.in-Ok.options c.in-Ok.ensures.ok fails)
     (c.serve_loaded.ensures.fault is))

@@ -1,13 +1,15 @@
-use Rattle.std.proofs.Common.{◌≡◌, Err, rules}
+use Rattle.std.proofs.Common.{◌≡◌, Err, rules, string_bytes}
 use Rattle.tko_commands.proofs.FaultLineLemmas.{of_err}
 use Rattle.tko_commands.specs.declared.fault.Fault.TheVariants as fault
+use Rattle.tko_cli.specs.Notices.{HasServerNotes}
 use Rattle.tko_cli.specs.Serving.{IsExplained, ServeFails}
 use Rattle.tko_cli.proofs.EndingLemmas.{fault_told, told_why}
 use Rattle.tko_cli.proofs.program.serve_loaded.Goals as goal
 
 pub returns-in-Err-clause-fault : goal.returns-in-Err-clause-fault
 returns-in-Err-clause-fault g c =
-    λ is. fault_told g.O.Outlet.takes g.O.Outlet.failures g.F.Outlet.takes g.F.Outlet.failures
+    λ is. fault_told g.O.Outlet.takes g.O.Outlet.failures g.F.Outlet
+    (HasServerNotes g.F.Outlet.takes g.F.Outlet.failures (string_bytes c.args.options.now.config))
     (ServeFails g.O.Outlet.takes g.O.Outlet.failures c.args.options.now c.args.output.now c.serve.new.output)
     c.in-Err.fault c.args.output.now c.serve.new.output c.args.faults.now c.serve.new.faults c.fail.new.faults
     c.in-Err.ensures.err c.in-Err.ensures.told c.fail.ensures.fault
@@ -17,7 +19,8 @@ returns-in-Err-Config-clause-fault g c =
     let cause = fault.Config c.in-Err-Config.cause in
     let fails = ServeFails g.O.Outlet.takes g.O.Outlet.failures c.args.options.now c.args.output.now c.serve.new.output in
     let is : c.serve.result ≡ Err cause = search rules in
-    λ one. told_why g.O.Outlet.takes g.O.Outlet.failures g.F.Outlet.takes g.F.Outlet.failures fails cause
+    λ one. told_why g.O.Outlet.takes g.O.Outlet.failures g.F.Outlet
+    (HasServerNotes g.F.Outlet.takes g.F.Outlet.failures (string_bytes c.args.options.now.config)) fails cause
     c.args.output.now c.serve.new.output c.args.faults.now c.serve.new.faults c.refuse_config.new.faults
     (of_err fails c.serve.result cause is c.serve.ensures.err)
     (of_err (λ it. IsExplained it → c.serve.new.faults ≡ c.args.faults.now) c.serve.result cause is c.serve.ensures.refused tt)
@@ -28,7 +31,8 @@ returns-in-Err-Listen-clause-fault g c =
     let cause = fault.Listen c.in-Err-Listen.cause in
     let fails = ServeFails g.O.Outlet.takes g.O.Outlet.failures c.args.options.now c.args.output.now c.serve.new.output in
     let is : c.serve.result ≡ Err cause = search rules in
-    λ one. told_why g.O.Outlet.takes g.O.Outlet.failures g.F.Outlet.takes g.F.Outlet.failures fails cause
+    λ one. told_why g.O.Outlet.takes g.O.Outlet.failures g.F.Outlet
+    (HasServerNotes g.F.Outlet.takes g.F.Outlet.failures (string_bytes c.args.options.now.config)) fails cause
     c.args.output.now c.serve.new.output c.args.faults.now c.serve.new.faults c.refuse_listen.new.faults
     (of_err fails c.serve.result cause is c.serve.ensures.err)
     (of_err (λ it. IsExplained it → c.serve.new.faults ≡ c.args.faults.now) c.serve.result cause is c.serve.ensures.refused tt)

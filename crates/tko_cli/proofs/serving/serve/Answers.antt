@@ -2,7 +2,7 @@ use Rattle.std.proofs.lemmas.Result.{IfErr-weaker}
 use Rattle.tko_commands.proofs.FaultLineLemmas.{on_ok}
 use Rattle.tko_cli.proofs.NoticeLemmas.{more_notices}
 use Rattle.tko_cli.proofs.ServingLemmas.{from_err, has_failed, has_plan, in_any_case, never_explained, prepared_fails}
-use Rattle.tko_cli.specs.Serving.{WithNotices}
+use Rattle.tko_cli.specs.Serving.{WithNotes}
 use Rattle.tko_cli.proofs.serving.serve.Goals as goal
 
 pub returns-clause-ok : goal.returns-clause-ok
@@ -22,16 +22,23 @@ returns-clause-err g c =
 
 pub returns-clause-noted : goal.returns-clause-noted
 returns-clause-noted g c =
-    in_any_case c.run_prepared.result
-    (more_notices g.F.Outlet.takes g.F.Outlet.failures c.args.faults.now c.note_memory.new.faults c.run_prepared.new.faults
-    c.note_memory.ensures c.run_prepared.ensures.noted)
+    in_any_case c.run_prepared.result (record {
+      middle = c.write_warnings.new.outlet;
+      warnings = rw c.as_str.ensures.value at c.write_warnings.ensures;
+      notices = more_notices g.F.Outlet.takes g.F.Outlet.failures c.write_warnings.new.outlet c.note_memory.new.faults
+          c.run_prepared.new.faults c.note_memory.ensures c.run_prepared.ensures.noted;
+    })
 
 pub returns-clause-told : goal.returns-clause-told
 returns-clause-told g c =
     from_err c.run_prepared.result c.run_prepared.ensures.err
-    (λ fault fails. WithNotices (has_failed g.O.Outlet.takes g.O.Outlet.failures c.args.output.now c.run_prepared.new.output fault fails)
-    (more_notices g.F.Outlet.takes g.F.Outlet.failures c.args.faults.now c.note_memory.new.faults c.run_prepared.new.faults
-    c.note_memory.ensures c.run_prepared.ensures.noted))
+    (λ fault fails. WithNotes (has_failed g.O.Outlet.takes g.O.Outlet.failures c.args.output.now c.run_prepared.new.output fault fails)
+    (record {
+      middle = c.write_warnings.new.outlet;
+      warnings = rw c.as_str.ensures.value at c.write_warnings.ensures;
+      notices = more_notices g.F.Outlet.takes g.F.Outlet.failures c.write_warnings.new.outlet c.note_memory.new.faults
+          c.run_prepared.new.faults c.note_memory.ensures c.run_prepared.ensures.noted;
+    }))
 
 pub returns-clause-refused : goal.returns-clause-refused
 returns-clause-refused g c =

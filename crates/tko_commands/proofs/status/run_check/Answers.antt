@@ -9,27 +9,24 @@ pub returns-in-Ok-clause-check : goal.returns-in-Ok-clause-check
 returns-in-Ok-clause-check g c = λ is. record {
   loaded = c.in-Ok.options;
   text = c.in-Ok.ensures.ok;
-  checked =
-      rw (c.as_str-json.ensures.value, c.deref.ensures.value) at
-      (of_ok c.check-done.result (c.status_over.ensures.ok is) c.check-done.ensures.ok);
+  checked = of_ok c.check-done.result (c.status_of_check.ensures.ok is) c.check-done.ensures.ok;
 }
 
 pub returns-in-Err-clause-fault : goal.returns-in-Err-clause-fault
 returns-in-Err-clause-fault g c =
     λ is. told_with g.F.Outlet.takes g.F.Outlet.failures
-    (HasNotChecked g.O.Outlet.failures c.args.options c.args.output.now c.args.output.now)
+    (HasNotChecked g.I.Inlet.failures g.O.Outlet.failures c.args.options
+    (c.args.input.now, c.args.output.now) (c.args.input.now, c.args.output.now))
     c.in-Err.fault c.args.faults.now c.loaded_check.new.faults
     c.fail.new.faults (NoCheckFile c.in-Err.ensures.err refl) c.in-Err.ensures.told c.fail.ensures.fault
 
 pub returns-in-Ok-clause-fault : goal.returns-in-Ok-clause-fault
 returns-in-Ok-clause-fault g c = λ is.
-    let to = c.check-done.new.output in
     rw c.in-Ok.ensures.kept at
     (told_as g.F.Outlet.takes g.F.Outlet.failures (λ fault. c.check-done.result ≡ Err fault)
-    (HasNotChecked g.O.Outlet.failures c.args.options c.args.output.now to)
-    c.loaded_check.new.faults c.status_over.new.faults
+    (HasNotChecked g.I.Inlet.failures g.O.Outlet.failures c.args.options (c.args.input.now, c.args.output.now) (c.check-done.new.input, c.check-done.new.output))
+    c.loaded_check.new.faults c.status_of_check.new.faults
     (λ fault came. NotChecked c.in-Ok.options c.in-Ok.ensures.ok
-    (rw (c.as_str-json.ensures.value) at
-    (of_err (CheckFails g.O.Outlet.failures c.as_str-json.result.now c.args.output.now to)
-    c.check-done.result fault came c.check-done.ensures.err)))
-    (c.status_over.ensures.fault is))
+    (of_err (CheckFails g.I.Inlet.failures g.O.Outlet.failures c.in-Ok.options (c.args.input.now, c.args.output.now) (c.check-done.new.input, c.check-done.new.output))
+    c.check-done.result fault came c.check-done.ensures.err))
+    (c.status_of_check.ensures.fault is))

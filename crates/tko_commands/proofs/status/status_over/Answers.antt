@@ -11,6 +11,14 @@ returns-in-Err-Config-clause-fault g c = λ is.
     (λ it same. err_as c.args.done cause it (search rules) same)
     c.refuse_config.ensures.fault
 
+pub returns-in-Err-KeysFile-clause-fault : goal.returns-in-Err-KeysFile-clause-fault
+returns-in-Err-KeysFile-clause-fault g c = λ is.
+    let cause = fault.KeysFile c.in-Err-KeysFile.unread in
+    told_as g.F.Outlet.takes g.F.Outlet.failures (λ it. it ≡ cause) (λ it. c.args.done ≡ Err it)
+    c.args.faults.now c.refuse_keys.new.faults
+    (λ it same. err_as c.args.done cause it (search rules) same)
+    c.refuse_keys.ensures.fault
+
 pub returns-in_default-clause-fault : goal.returns-in_default-clause-fault
 returns-in_default-clause-fault g c = λ is.
     let given : c.args.done ≡ c.in_default-1.done = search rules in

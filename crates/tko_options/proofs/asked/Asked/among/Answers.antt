@@ -2,9 +2,9 @@ use Rattle.std.proofs.Common.{rules, codes, ◌≡◌, Some}
 use Rattle.std.proofs.lemmas.Result.{err_from_is_err_and}
 use Rattle.clap.specs.Words.{found_of, subcommand_name_of}
 use Rattle.tko_options.specs.Found.{AreCheckFound, AreDemoFound, AreDryFound, AreFound}
-use Rattle.tko_options.specs.Misfits.{BadKey, HasNoKey, IsMisfit, Unfit}
+use Rattle.tko_options.specs.Misfits.{IsCheckMisfit, IsMisfit, Unfit, UnfitCheck}
 use Rattle.tko_options.proofs.AskedLemmas.{is_command}
-use Rattle.tko_options.proofs.MisfitLemmas.{bad_key, unfit_command}
+use Rattle.tko_options.proofs.MisfitLemmas.{unfit_check, unfit_command}
 use Rattle.tko_options.proofs.asked.Asked.among.Goals as goal
 
 pub returns-in_err-of-clause-refused : goal.returns-in_err-of-clause-refused
@@ -22,11 +22,11 @@ returns-in_err-of-3-clause-refused c =
     let named : subcommand_name_of c.args.matches.now ≡ Some (codes "check") = search rules in
     let p = err_from_is_err_and c.from_residual-in_err-of-3.result c.from_residual-in_err-of-3.ensures.1 in
     rw (p.1, p.2)
-    (bad_key c.args.matches.now (found_of c.in-Some-subcommand_matches-2.found.now) c.in_err-of-3.field-0.0
+    (unfit_check c.args.matches.now (found_of c.in-Some-subcommand_matches-2.found.now) c.in_err-of-3.field-0.0
     c.in_err-of-3.ensures.err
-    (λ none. BadKey (is_command (codes "check") HasNoKey c.args.matches.now
+    (λ misfit. UnfitCheck (is_command (codes "check") IsCheckMisfit c.args.matches.now
     c.in-Some-subcommand_matches-2.found.now
-    named c.in-Some-subcommand_matches-2.ensures.rows none)))
+    named c.in-Some-subcommand_matches-2.ensures.rows misfit)))
 
 pub returns-in-Some-clause-asks : goal.returns-in-Some-clause-asks
 returns-in-Some-clause-asks c =

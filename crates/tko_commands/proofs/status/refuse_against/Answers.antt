@@ -1,0 +1,12 @@
+use Rattle.std.proofs.Common.{◌≡◌, refl}
+use Rattle.tko_commands.proofs.ReasonLemmas.{against_reason, told_with}
+use Rattle.tko_commands.specs.declared.fault.Fault.TheVariants as fault
+use Rattle.tko_commands.proofs.status.refuse_against.Goals as goal
+
+pub returns-clause-fault : goal.returns-clause-fault
+returns-clause-fault g c =
+    told_with g.F.Outlet.takes g.F.Outlet.failures (λ it. it ≡ fault.Against c.args.cause)
+    (fault.Against c.args.cause) c.args.faults.now c.write_config_reason.new.faults c.fail.new.faults refl
+    (against_reason g.F.Outlet.takes g.F.Outlet.failures c.unwrap_or.result.now c.args.cause c.args.faults.now
+    c.write_config_reason.new.faults c.write_config_reason.ensures)
+    c.fail.ensures.fault
