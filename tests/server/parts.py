@@ -223,7 +223,7 @@ class ServerTest(unittest.TestCase):
     def close_proxy(self, proxy, may_end):
         running, text = proxy.close()
         self.assertTrue(running or may_end, "the program ended before the test did")
-        self.assertRegex(text, rb"\A(note: [^\n]+\n|" + LOG_LINE + rb"\n)+\Z")
+        self.assertRegex(text, rb"\A(warning: [^\n]+\n)*(note: [^\n]+\n|" + LOG_LINE + rb"\n)+\Z")
 
     def client(self, port, **options):
         return self.kept(Client(port, **options))
