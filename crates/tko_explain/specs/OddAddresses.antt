@@ -40,7 +40,8 @@ colons_line address host port =
 -- what is said of an address with brackets round something else
 abbrev pub brackets_line : List ℕ → List ℕ
 brackets_line address =
-    codes "warning: server " ++ quoted address ++ codes " has brackets, and no IPv6 address in them\n"
+    codes "warning: server " ++ quoted address
+    ++ codes " has brackets, and no IPv6 address in them\n"
 
 -- what is said of an address whose host has brackets round this text
 pub data IsBracketNote (address inside note : List ℕ) : Type 0 where

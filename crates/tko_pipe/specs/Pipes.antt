@@ -17,8 +17,8 @@ use Rattle.tko_pipe.specs.Fates.{Leaving, fates_of, next_fate}
 use Rattle.tko_pipe.specs.Windows.{late_after, read_window, unbegun_window}
 
 -- the time limit, how far the connection is, who waits, what is not written of their requests'
--- texts, the bytes that no response was taken from, when the last bytes came, and since when how many
--- came
+-- texts, the bytes that no response was taken from, when the last bytes came, and since when how
+-- many came
 pub record PipeState : Type 0 where
   pub limit : ℕ
   pub link : Link

@@ -13,3 +13,4 @@ mod PlacedLemmas
 mod ReasonLemmas
 mod RouteLemmas
 mod SoundLemmas
+mod TargetLemmas

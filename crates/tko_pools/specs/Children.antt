@@ -73,7 +73,8 @@ pub record IsChildOf (addresses : List (List ℕ)) (pool : Data) (child : Child)
   pub ring : IsRingIn (named_servers pool) (kind_in pool) child.ring
 
 -- a child is the pool of this name
-pub record IsChildNamed (addresses : List (List ℕ)) (pools : Data) (name : List ℕ) (child : Child) : Type 0 where
+pub record IsChildNamed (addresses : List (List ℕ)) (pools : Data) (name : List ℕ) (child : Child)
+    : Type 0 where
   pub pool : Data
   pub named : get name pools ≡ Some pool
   pub is : IsChildOf addresses pool child

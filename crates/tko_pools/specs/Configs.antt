@@ -89,7 +89,8 @@ configuration pools route children =
     }
 
 -- a configuration is that of these pools and this route
-pub record IsConfiguration (pools : Data) (route : RouteRead) (config : Configuration) : Type 0 where
+pub record IsConfiguration (pools : Data) (route : RouteRead) (config : Configuration)
+    : Type 0 where
   pub children :
       AreChildren (addresses_of pools route.children) pools route.children config.children
   pub is : config ≡ configuration pools route config.children

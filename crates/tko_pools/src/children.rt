@@ -1,9 +1,9 @@
 //! The children of a route.
-ghost use Rattle.std.specs.Prelude.{◌≡◌, ◌<◌, [], None, Some, All, IfOk, IsSome, OnOk, length, map, option_map};
+ghost use Rattle.std.specs.Prelude.{◌≡◌, ◌<◌, [], None, Some, All, IfOk, IsSome, length, map, option_map};
 ghost use Rattle.std.specs.Arc.{arc_value};
 ghost use Rattle.serde_json.specs.Find.{get};
 ghost use Rattle.serde_json.specs.View.{view};
-ghost use Rattle.tko_pools.specs.Children.{AreChildren, IsChildOf, IsRingIn, targets_for};
+ghost use Rattle.tko_pools.specs.Children.{AreChildren, IsChildOf, IsRingIn};
 ghost use Rattle.tko_pools.specs.Configs.{IsSoundName, IsSoundPool};
 ghost use Rattle.tko_pools.specs.Placements.{kind_in};
 ghost use Rattle.tko_pools.specs.RingServers.{are_fit, named_servers};
@@ -59,8 +59,8 @@ fn child_of(alloc: Global, addresses: &NumberedAddresses, pool: &Value) -> Resul
 /// The ring of a pool, if it has one.
 fn ring_of(alloc: Global, pool: &Value) -> Result<Option<Arc<Ring>>, NoMemory>
     requires { IsSoundPool (view pool.now) }
-    ensures { IfOk result (λ ring. IsRingIn (named_servers (view pool.now)) (kind_in (view pool.now))
-        (option_map (λ ring. arc_value ring) ring)) }
+    ensures { IfOk result (λ ring. IsRingIn (named_servers (view pool.now))
+        (kind_in (view pool.now)) (option_map (λ ring. arc_value ring) ring)) }
 {
     let Some(kind) = kind_in(pool) else {
         return Ok(None);
@@ -68,25 +68,4 @@ fn ring_of(alloc: Global, pool: &Value) -> Result<Option<Arc<Ring>>, NoMemory>
     let servers = named_servers(alloc, pool)?;
     let ring = Ring::of(alloc, kind, &servers)?;
     Ok(Some(Arc::new(alloc, ring)?))
-}
-
-/// Puts the server of each child for a key into an empty list. A key is hashed once for children in
-/// a row that hash alike.
-pub(crate) fn push_targets(
-    key: &[u8],
-    children: &[Child],
-    targets: &mut Vec<usize>,
-) -> Result<(), NoMemory>
-    requires empty { targets.old.items ≡ [] }
-    ensures { OnOk result (targets.new.items ≡ targets_for key.now children.now) }
-{
-    let mut hash = 0;
-    let mut before = None;
-    for child in children {
-        let hashing = child.hashing();
-        hash = hashing.again(before, hash, key);
-        before = Some(hashing);
-        targets.push(child.server(hash))?;
-    }
-    Ok(())
 }

@@ -10,12 +10,13 @@ mod in_order;
 
 use crate::ConfigFault;
 use crate::child::Child;
-use crate::children::{children_of, push_targets};
+use crate::children::children_of;
 use crate::flaws::{check_pools, unknown_child};
 use crate::groups::ServerGroups;
 use crate::json::{pools_in, servers_named};
 use crate::numbering::NumberedAddresses;
 use crate::route::Route;
+use crate::targets::push_targets;
 use serde_json::Value;
 use std::alloc::{AllocError, Global};
 use std::marker::Model;

@@ -1,5 +1,5 @@
 //! How keys are hashed.
-ghost use Rattle.std.specs.Prelude.{◌≡◌, IfOk, IfSome, IsTrue};
+ghost use Rattle.std.specs.Prelude.{◌≡◌, IfOk, IsTrue};
 ghost use Rattle.tko_ring.specs.Hashing.{hash_of};
 ghost use Rattle.tko_ring.specs.KeyParts.{hashed_part};
 
@@ -31,19 +31,8 @@ impl Hashing {
         })
     }
 
-    /// The hash of a key, whose hash by another of these is known if there is one.
-    pub fn again(&self, before: Option<&Hashing>, known: u32, key: &[u8]) -> u32
-        requires { IfSome before (λ it. known ≡ hash_of it.now.hash (hashed_part it.now.part key.now)) }
-        ensures { result ≡ hash_of self.now.hash (hashed_part self.now.part key.now) }
-    {
-        match before {
-            Some(before) if self.is_same(before) => known,
-            _ => self.of(key),
-        }
-    }
-
     /// Whether another is the same.
-    fn is_same(&self, other: &Hashing) -> bool
+    pub fn is_same(&self, other: &Hashing) -> bool
         ensures { IsTrue result → self.now ≡ other.now }
     {
         self.hash == other.hash && self.part.is_same(&other.part)

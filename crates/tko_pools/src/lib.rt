@@ -28,13 +28,13 @@ mod pool_key;
 mod ring_servers;
 mod route;
 mod soft_limits;
+mod targets;
 
 pub use address::is_address;
 pub use config::Config;
 pub use distribution::Distribution;
 pub use fault::ConfigFault;
 pub use json::{child_name, pools_in, text_of};
-pub use placement::{distribution_in, hash_in, kind_in};
+pub use placement::{distribution_in, hash_in};
 pub use pool_key::PoolKey;
-pub use ring_servers::named_servers;
 pub use soft_limits::soft_limit_named;

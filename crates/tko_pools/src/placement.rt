@@ -40,7 +40,7 @@ fn hash_or_default(pool: &Value) -> KeyHash
 }
 
 /// The kind of ring of a pool, if it has a ring.
-pub fn kind_in(pool: &Value) -> Option<RingKind>
+pub(crate) fn kind_in(pool: &Value) -> Option<RingKind>
     ensures { result ≡ kind_in (view pool.now) }
 {
     distribution_in(pool)?.ring_kind(hash_or_default(pool))

@@ -13,7 +13,7 @@ use tko_ring::{MAX_WEIGHT, Server, are_weighed, default_name};
 
 /// The servers of a pool with their names and weights.
 #[tactic(auto, unfolding(crate::specs::RingServers::named_servers))]
-pub fn named_servers(alloc: Global, pool: &Value) -> Result<Vec<Server>, NoMemory>
+pub(crate) fn named_servers(alloc: Global, pool: &Value) -> Result<Vec<Server>, NoMemory>
     ensures { IfOk result (λ servers. servers.items ≡ named_servers (view pool.now)) }
 {
     let (names, weights) = (pool.get("names"), pool.get("weights"));

@@ -82,7 +82,8 @@ impl ExchangeTime {
     /// How long a call that begins now may wait; None if no time is left.
     pub(crate) fn turn(&self) -> Option<Duration>
         ensures { MatchOption result (left_of self.now ≡ 0)
-            (λ turn. (0 < left_of self.now) × (as_nanos turn ≡ turn_left self.now * nanos_in_milli)) }
+            (λ turn. (0 < left_of self.now)
+            × (as_nanos turn ≡ turn_left self.now * nanos_in_milli)) }
     {
         let left = self.left();
         if left == 0 {

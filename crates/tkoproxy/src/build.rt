@@ -2,5 +2,5 @@
 
 /// The sum of the sources, which `release/hash` prints, and the kit that built them.
 pub(crate) const BUILD: &str =
-    "sources 166b19a2d4bffea13bc086122e6e1587f31d412d8ad1381cfc83dd3a881693fc, \
+    "sources 37541079acc4b0b58bdfcf409bd201144a9fd7c8d3d96589c9edd587626c2285, \
     rattle-kit-13f logic dac8208d650f15bf";
