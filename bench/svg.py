@@ -4,7 +4,7 @@ from html import escape
 INK, GREY, GRID, SHADE = "#222222", "#555555", "#dddddd", "#f1e4e4"
 COLOURS = {"memcached": "#7f7f7f", "tkoproxy": "#0072b2", "nutcracker": "#d55e00", "haproxy": "#009e73",
            "before": "#cc79a7", "tkoproxy threads": "#56b4e9", "tkoproxy keys at once": "#004b75",
-           "tkoproxy keys grouped": "#f0b400"}
+           "tkoproxy keys grouped": "#f0b400", "tkoproxy spread": "#8a6fc0"}
 
 
 def number(value):

@@ -126,14 +126,14 @@ def tkoproxy_threads(name, program, servers, connections):
                        [*threads_mode(program), "--threads", str(connections), "--timeout", str(PATIENT)])
 
 
-def tkoproxy_events(name, program, servers, workers, *more):
-    """The program with so many event-driven workers, and with more options."""
-    return tkoproxy_of(name, program, config_of(servers),
+def tkoproxy_events(name, program, servers, workers, *more, **keys):
+    """The program with so many event-driven workers, with more options and more keys of the pool."""
+    return tkoproxy_of(name, program, config_of(servers, **keys),
                        ["--mode", "events", "--threads", str(workers), "--timeout", str(PATIENT), *more])
 
 
-def config_of(servers):
-    return {"pools": {"all": {"servers": servers}}, "route": "PoolRoute|all"}
+def config_of(servers, **keys):
+    return {"pools": {"all": {"servers": servers, **keys}}, "route": "PoolRoute|all"}
 
 
 def tkoproxy_of(name, program, config, options, errors=subprocess.DEVNULL):
