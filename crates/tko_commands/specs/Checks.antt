@@ -1,5 +1,5 @@
 -- What `check` writes, and why it fails.
-use Rattle.std.specs.Prelude.{◌≡◌, ◌<◌, ◌⊎◌, ℕ, true, false, List, ◌++◌, Option, Some, IsSomeAnd, codes, map, option_map, string_bytes}
+use Rattle.std.specs.Prelude.{◌≡◌, ◌<◌, ◌⊎◌, ℕ, false, List, ◌++◌, Option, Some, IsSomeAnd, codes, map, option_map, string_bytes}
 use Rattle.tko_explain.specs.Reports.{IsReport}
 use Rattle.tko_io.specs.declared.io.Inlet.{Ghosts as InletGhosts}
 use Rattle.tko_options.specs.declared.check_options.CheckOptions.{CheckOptions}

@@ -18,6 +18,7 @@ mod loading;
 mod outcomes;
 mod reading;
 mod reasons;
+mod refusing;
 mod replay;
 mod status;
 mod trail_lines;
@@ -28,8 +29,7 @@ pub use fault::Fault;
 pub use grouped::settings_over;
 pub use listen_fault::ListenFault;
 pub use loading::loaded_server;
-pub use status::{
-    DONE, fail, refuse_config, refuse_listen, run_check, run_dry, run_replay, status_of,
-};
+pub use refusing::{fail, refuse_config, refuse_listen};
+pub use status::{DONE, run_check, run_dry, run_replay, status_of};
 pub use unread_keys::UnreadKeys;
 pub use writing::{WriteFault, write_text};

@@ -1,28 +1,23 @@
 //! Commands run to their status. Their faults are reported.
-ghost use Rattle.std.specs.Prelude.{◌≡◌, ◌≤◌, ◌<◌, Err, IsOk, OnOk, OnErr};
+ghost use Rattle.std.specs.Prelude.{◌≡◌, ◌≤◌, Err, IsOk};
 ghost use Rattle.tko_commands.specs.Done.{HasCheckedAll, HasDried};
-ghost use Rattle.tko_commands.specs.FaultLines.{HasFaultLine, IsFaultWritten, IsReasonTold};
+ghost use Rattle.tko_commands.specs.FaultLines.{IsReasonTold};
 ghost use Rattle.tko_commands.specs.NotDone.{HasNotChecked, HasNotDried};
 ghost use Rattle.tko_commands.specs.Replays.{ReplayFails, ReplaysSchedule};
 
+use crate::Fault;
 use crate::checking::check;
 use crate::dry::dry;
-use crate::key_lists::against_of;
 use crate::loading::{loaded_check, loaded_dry};
-use crate::reasons::{write_config_reason, write_keys_reason, write_listen_reason};
+use crate::refusing::{fail, refuse_against, refuse_config, refuse_keys};
 use crate::replay::replay;
-use crate::writing::{WriteFault, write_text};
-use crate::{Fault, ListenFault, UnreadKeys};
 use std::alloc::Global;
 use std::fs::Files;
 use tko_io::{Inlet, IoRuntime, Outlet};
 use tko_options::{CheckOptions, DryOptions};
-use tko_pools::ConfigFault;
 
 /// The status of a command that was done.
 pub const DONE: u8 = 0;
-
-const FAILED: u8 = 1;
 
 /// Answers the input from scripted servers, and returns the status.
 pub fn run_dry<R: IoRuntime + Files, I: Inlet, O: Outlet, F: Outlet>(
@@ -163,94 +158,5 @@ fn status_over<R: IoRuntime, F: Outlet>(
         Err(Fault::Config(cause)) => refuse_config(rt, alloc, faults, json, cause),
         Err(Fault::KeysFile(unread)) => refuse_keys(rt, alloc, faults, unread),
         done => status_of(rt, alloc, faults, done),
-    }
-}
-
-/// Reports why a text is no configuration, and then the fault. Returns its status.
-pub fn refuse_config<R: IoRuntime, F: Outlet>(
-    rt: &R,
-    alloc: Global,
-    faults: &mut F,
-    json: &str,
-    cause: ConfigFault,
-) -> u8
-    ensures status { result ≡ 1 }
-    ensures fault { IsReasonTold F.takes F.failures (λ fault. fault ≡ Fault.Config cause)
-        faults.old faults.new }
-{
-    write_config_reason(rt, alloc, faults, json, &cause);
-    fail(rt, alloc, faults, Fault::Config(cause))
-}
-
-/// Reports why the text that keys are compared with is no configuration, and then the fault.
-/// Returns its status.
-fn refuse_against<R: IoRuntime, F: Outlet>(
-    rt: &R,
-    alloc: Global,
-    faults: &mut F,
-    options: &CheckOptions,
-    cause: ConfigFault,
-) -> u8
-    ensures status { result ≡ 1 }
-    ensures fault { IsReasonTold F.takes F.failures (λ fault. fault ≡ Fault.Against cause)
-        faults.old faults.new }
-{
-    write_config_reason(rt, alloc, faults, against_of(options).unwrap_or(""), &cause);
-    fail(rt, alloc, faults, Fault::Against(cause))
-}
-
-/// Reports why the file of a list of keys cannot be read, and then the fault. Returns its status.
-fn refuse_keys<R: IoRuntime, F: Outlet>(
-    rt: &R,
-    alloc: Global,
-    faults: &mut F,
-    unread: UnreadKeys,
-) -> u8
-    ensures status { result ≡ 1 }
-    ensures fault { IsReasonTold F.takes F.failures (λ fault. fault ≡ Fault.KeysFile unread)
-        faults.old faults.new }
-{
-    write_keys_reason(rt, alloc, faults, &unread);
-    fail(rt, alloc, faults, Fault::KeysFile(unread))
-}
-
-/// Reports why nothing can listen at an address, and then the fault. Returns its status.
-pub fn refuse_listen<R: IoRuntime, F: Outlet>(
-    rt: &R,
-    alloc: Global,
-    faults: &mut F,
-    address: &str,
-    cause: ListenFault,
-) -> u8
-    ensures status { result ≡ 1 }
-    ensures fault { IsReasonTold F.takes F.failures (λ fault. fault ≡ Fault.Listen cause)
-        faults.old faults.new }
-{
-    write_listen_reason(rt, alloc, faults, address, &cause);
-    fail(rt, alloc, faults, Fault::Listen(cause))
-}
-
-/// Reports a fault and returns its status. A failure to report it is not reported.
-pub fn fail<R: IoRuntime, F: Outlet>(rt: &R, alloc: Global, faults: &mut F, fault: Fault) -> u8
-    ensures status { result ≡ 1 }
-    ensures fault { IsFaultWritten F.takes F.failures fault faults.old faults.new }
-{
-    let _ = write_fault(rt, alloc, faults, fault);
-    FAILED
-}
-
-/// Writes the line of a fault, or that memory ran out.
-fn write_fault<R: IoRuntime, F: Outlet>(
-    rt: &R,
-    alloc: Global,
-    faults: &mut F,
-    fault: Fault,
-) -> Result<(), WriteFault>
-    ensures ok { OnOk result (HasFaultLine F.takes fault faults.old faults.new) }
-    ensures err { OnErr result (F.failures faults.old < F.failures faults.new) }
-{
-    match format!(in alloc; "{fault}\n") {
-        Ok(line) => write_text(rt, faults, line.as_bytes()),
-        Err(_) => write_text(rt, faults, b"fault: memory\n"),
     }
 }

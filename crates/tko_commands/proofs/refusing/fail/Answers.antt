@@ -1,5 +1,5 @@
 use Rattle.tko_commands.proofs.FaultLineLemmas.{is_fault_written}
-use Rattle.tko_commands.proofs.status.fail.Goals as goal
+use Rattle.tko_commands.proofs.refusing.fail.Goals as goal
 
 pub returns-clause-fault : goal.returns-clause-fault
 returns-clause-fault g c =

@@ -1,7 +1,7 @@
 use Rattle.std.proofs.Common.{◌≡◌, refl}
 use Rattle.tko_commands.proofs.ReasonLemmas.{told_with}
 use Rattle.tko_commands.specs.declared.fault.Fault.TheVariants as fault
-use Rattle.tko_commands.proofs.status.refuse_keys.Goals as goal
+use Rattle.tko_commands.proofs.refusing.refuse_keys.Goals as goal
 
 pub returns-clause-fault : goal.returns-clause-fault
 returns-clause-fault g c =
