@@ -1,27 +1,20 @@
 -- Why the options of `serve` name nothing to run on.
-use Rattle.std.proofs.Common.{◌≡◌, Some, length}
+use Rattle.std.proofs.Common.{length}
 use Rattle.std.specs.Prelude.{string_bytes}
-use Rattle.tko_model.specs.Ranges.{first_fault}
-use Rattle.tko_model.specs.declared.settings.SettingsFault.{SettingsFault}
 use Rattle.tko_pools.specs.Configs.{Configuration, Means}
 use Rattle.tko_commands.specs.declared.fault.Fault.{Fault}
 use Rattle.tko_commands.specs.declared.fault.Fault.TheVariants as fault
 use Rattle.tko_options.specs.declared.serve_options.ServeOptions.{ServeOptions}
 use Rattle.tko_commands.specs.Grouped.{NoSettings}
-use Rattle.tko_cli.specs.Planned.{NoPlan, plan_options}
+use Rattle.tko_cli.specs.Planned.{NoPlan}
 use Rattle.tko_options.specs.Trackers.{serve_settings}
-
--- a setting is outside its range
-unset_plan : (options : ServeOptions) (name : SettingsFault) (config : Configuration)
-    → Means (string_bytes options.config) config
-    → first_fault (plan_options options config) ≡ Some name → NoPlan options (fault.Settings name)
-unset_plan options name config means first = record { config = config; means = means; first = first }
 
 -- there are no settings
 pub no_settings : (options : ServeOptions) (config : Configuration) (reason : Fault)
     → Means (string_bytes options.config) config
     → NoSettings (serve_settings options (length config.addresses)) reason → NoPlan options reason
-no_settings options config (fault.Settings name) means first = unset_plan options name config means first
+no_settings options config (fault.Settings outside) means first =
+    record { config = config; means = means; first = first }
 no_settings options config fault.Memory means none = tt
 no_settings options config fault.Read means none = absurd none
 no_settings options config fault.Write means none = absurd none
@@ -33,7 +26,7 @@ no_settings options config (fault.KeysFile unread) means none = absurd none
 no_settings options config (fault.Outcomes number) means none = absurd none
 no_settings options config (fault.Line number) means none = absurd none
 no_settings options config fault.Check means none = absurd none
-no_settings options config fault.Delays means none = absurd none
+no_settings options config (fault.Delays delays) means none = absurd none
 no_settings options config (fault.Listen cause) means none = absurd none
 no_settings options config fault.Metrics means none = absurd none
 no_settings options config fault.Accept means none = absurd none

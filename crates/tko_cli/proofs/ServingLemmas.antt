@@ -85,7 +85,7 @@ totals_fail takes failures from middle to fault.Write ready calm is = subst (λ 
 totals_fail takes failures from middle to fault.Memory ready calm is = inr (subst (takes from ready_text) (sym is) ready)
 totals_fail takes failures from middle to fault.Read ready calm is = absurd is
 totals_fail takes failures from middle to fault.LineTooLong ready calm is = absurd is
-totals_fail takes failures from middle to (fault.Settings name) ready calm is = absurd is
+totals_fail takes failures from middle to (fault.Settings outside) ready calm is = absurd is
 totals_fail takes failures from middle to (fault.Config cause) ready calm is = absurd is
 totals_fail takes failures from middle to fault.ConfigFile ready calm is = absurd is
 totals_fail takes failures from middle to (fault.Against cause) ready calm is = absurd is
@@ -93,7 +93,7 @@ totals_fail takes failures from middle to (fault.KeysFile unread) ready calm is 
 totals_fail takes failures from middle to (fault.Outcomes number) ready calm is = absurd is
 totals_fail takes failures from middle to (fault.Line number) ready calm is = absurd is
 totals_fail takes failures from middle to fault.Check ready calm is = absurd is
-totals_fail takes failures from middle to fault.Delays ready calm is = absurd is
+totals_fail takes failures from middle to (fault.Delays delays) ready calm is = absurd is
 totals_fail takes failures from middle to (fault.Listen cause) ready calm is = absurd is
 totals_fail takes failures from middle to fault.Metrics ready calm is = absurd is
 totals_fail takes failures from middle to fault.Accept ready calm is = absurd is
@@ -106,7 +106,7 @@ no_metrics options fault.Memory plan none = tt
 no_metrics options fault.Read plan none = absurd none
 no_metrics options fault.Write plan none = absurd none
 no_metrics options fault.LineTooLong plan none = absurd none
-no_metrics options (fault.Settings name) plan none = absurd none
+no_metrics options (fault.Settings outside) plan none = absurd none
 no_metrics options (fault.Config cause) plan none = absurd none
 no_metrics options fault.ConfigFile plan none = absurd none
 no_metrics options (fault.Against cause) plan none = absurd none
@@ -114,7 +114,7 @@ no_metrics options (fault.KeysFile unread) plan none = absurd none
 no_metrics options (fault.Outcomes number) plan none = absurd none
 no_metrics options (fault.Line number) plan none = absurd none
 no_metrics options fault.Check plan none = absurd none
-no_metrics options fault.Delays plan none = absurd none
+no_metrics options (fault.Delays delays) plan none = absurd none
 no_metrics options (fault.Listen cause) plan none = absurd none
 no_metrics options fault.Accept plan none = absurd none
 
@@ -127,7 +127,7 @@ no_listener options fault.Metrics plan none = absurd none
 no_listener options fault.Read plan none = absurd none
 no_listener options fault.Write plan none = absurd none
 no_listener options fault.LineTooLong plan none = absurd none
-no_listener options (fault.Settings name) plan none = absurd none
+no_listener options (fault.Settings outside) plan none = absurd none
 no_listener options (fault.Config cause) plan none = absurd none
 no_listener options fault.ConfigFile plan none = absurd none
 no_listener options (fault.Against cause) plan none = absurd none
@@ -135,7 +135,7 @@ no_listener options (fault.KeysFile unread) plan none = absurd none
 no_listener options (fault.Outcomes number) plan none = absurd none
 no_listener options (fault.Line number) plan none = absurd none
 no_listener options fault.Check plan none = absurd none
-no_listener options fault.Delays plan none = absurd none
+no_listener options (fault.Delays delays) plan none = absurd none
 no_listener options fault.Accept plan none = absurd none
 
 -- where nothing can run, nothing was written
@@ -148,7 +148,7 @@ unprepared_fails takes failures options from fault.Write is = absurd is
 unprepared_fails takes failures options from fault.Accept is = absurd is
 unprepared_fails takes failures options from fault.Read is = (is, refl)
 unprepared_fails takes failures options from fault.LineTooLong is = (is, refl)
-unprepared_fails takes failures options from (fault.Settings name) is = (is, refl)
+unprepared_fails takes failures options from (fault.Settings outside) is = (is, refl)
 unprepared_fails takes failures options from (fault.Config cause) is = (is, refl)
 unprepared_fails takes failures options from fault.ConfigFile is = (is, refl)
 unprepared_fails takes failures options from (fault.Against cause) is = (is, refl)
@@ -156,7 +156,7 @@ unprepared_fails takes failures options from (fault.KeysFile unread) is = (is, r
 unprepared_fails takes failures options from (fault.Outcomes number) is = (is, refl)
 unprepared_fails takes failures options from (fault.Line number) is = (is, refl)
 unprepared_fails takes failures options from fault.Check is = (is, refl)
-unprepared_fails takes failures options from fault.Delays is = (is, refl)
+unprepared_fails takes failures options from (fault.Delays delays) is = (is, refl)
 
 -- why a server that was ready to run fails
 pub prepared_fails : {O : Type 0} (takes : O → List ℕ → O → Type 0) (failures : O → ℕ) (options : ServeOptions)
@@ -168,7 +168,7 @@ prepared_fails takes failures options from to fault.Memory plan (inl same) = inl
 prepared_fails takes failures options from to fault.Memory plan (inr ready) = inr (record { plan = plan; ready = ready })
 prepared_fails takes failures options from to fault.Read plan is = absurd is
 prepared_fails takes failures options from to fault.LineTooLong plan is = absurd is
-prepared_fails takes failures options from to (fault.Settings name) plan is = absurd is
+prepared_fails takes failures options from to (fault.Settings outside) plan is = absurd is
 prepared_fails takes failures options from to (fault.Config cause) plan is = absurd is
 prepared_fails takes failures options from to fault.ConfigFile plan is = absurd is
 prepared_fails takes failures options from to (fault.Against cause) plan is = absurd is
@@ -176,7 +176,7 @@ prepared_fails takes failures options from to (fault.KeysFile unread) plan is = 
 prepared_fails takes failures options from to (fault.Outcomes number) plan is = absurd is
 prepared_fails takes failures options from to (fault.Line number) plan is = absurd is
 prepared_fails takes failures options from to fault.Check plan is = absurd is
-prepared_fails takes failures options from to fault.Delays plan is = absurd is
+prepared_fails takes failures options from to (fault.Delays delays) plan is = absurd is
 prepared_fails takes failures options from to (fault.Listen cause) plan is = absurd is
 prepared_fails takes failures options from to fault.Metrics plan is = absurd is
 
@@ -189,7 +189,7 @@ has_failed takes failures from to fault.Memory (inl same) = NotReady same
 has_failed takes failures from to fault.Memory (inr ready) = Ready ready
 has_failed takes failures from to fault.Read is = absurd is
 has_failed takes failures from to fault.LineTooLong is = absurd is
-has_failed takes failures from to (fault.Settings name) is = absurd is
+has_failed takes failures from to (fault.Settings outside) is = absurd is
 has_failed takes failures from to (fault.Config cause) is = absurd is
 has_failed takes failures from to fault.ConfigFile is = absurd is
 has_failed takes failures from to (fault.Against cause) is = absurd is
@@ -197,7 +197,7 @@ has_failed takes failures from to (fault.KeysFile unread) is = absurd is
 has_failed takes failures from to (fault.Outcomes number) is = absurd is
 has_failed takes failures from to (fault.Line number) is = absurd is
 has_failed takes failures from to fault.Check is = absurd is
-has_failed takes failures from to fault.Delays is = absurd is
+has_failed takes failures from to (fault.Delays delays) is = absurd is
 has_failed takes failures from to (fault.Listen cause) is = absurd is
 has_failed takes failures from to fault.Metrics is = absurd is
 
@@ -206,7 +206,7 @@ pub never_explained : {O : Type 0} (takes : O → List ℕ → O → Type 0) (fa
     → PreparedFails takes failures from to reason → IsExplained reason → ⊥
 never_explained takes failures from to fault.Read is config = absurd config
 never_explained takes failures from to fault.LineTooLong is config = absurd config
-never_explained takes failures from to (fault.Settings name) is config = absurd config
+never_explained takes failures from to (fault.Settings outside) is config = absurd is
 never_explained takes failures from to (fault.Config cause) is config = absurd is
 never_explained takes failures from to fault.ConfigFile is config = absurd config
 never_explained takes failures from to (fault.Against cause) is config = absurd config
@@ -214,7 +214,7 @@ never_explained takes failures from to (fault.KeysFile unread) is config = absur
 never_explained takes failures from to (fault.Outcomes number) is config = absurd config
 never_explained takes failures from to (fault.Line number) is config = absurd config
 never_explained takes failures from to fault.Check is config = absurd config
-never_explained takes failures from to fault.Delays is config = absurd config
+never_explained takes failures from to (fault.Delays delays) is config = absurd is
 never_explained takes failures from to (fault.Listen cause) is config = absurd is
 never_explained takes failures from to fault.Metrics is config = absurd config
 never_explained takes failures from to fault.Accept is config = absurd config

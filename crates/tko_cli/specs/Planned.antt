@@ -1,8 +1,7 @@
 -- What `serve` runs on, and why its options name none of it.
-use Rattle.std.specs.Prelude.{◌≡◌, ℕ, Bool, length, true, false, Option, Some, string_bytes}
-use Rattle.tko_model.specs.Ranges.{IsWithinRanges, first_fault}
+use Rattle.std.specs.Prelude.{◌≡◌, ℕ, Bool, length, true, false, Option, string_bytes}
+use Rattle.tko_model.specs.Ranges.{IsWithinRanges}
 use Rattle.tko_model.specs.Settings.{Settings, in_one_group}
-use Rattle.tko_model.specs.declared.settings.SettingsFault.{SettingsFault}
 use Rattle.tko_pools.specs.Addresses.{is_address}
 use Rattle.tko_pools.specs.Configs.{Configuration, Means, Refuses}
 use Rattle.tko_pools.specs.declared.fault.ConfigFault.{ConfigFault}
@@ -15,9 +14,12 @@ use Rattle.tko_server.specs.declared.running.Options.{Options as Server}
 use Rattle.tko_options.specs.Trackers.{serve_settings}
 use Rattle.tko_commands.specs.Faults.{fault_of_config}
 use Rattle.tko_commands.specs.Grouped.{grouped}
+use Rattle.tko_commands.specs.OutsideRanges.{IsFirstOutside}
 use Rattle.tko_commands.specs.declared.fault.Fault.{Fault}
 use Rattle.tko_commands.specs.declared.fault.Fault.TheVariants as fault
 use Rattle.tko_commands.specs.declared.listen_fault.ListenFault.TheVariants as listen_fault
+use Rattle.tko_commands.specs.declared.outside_range.OutsideRange.{OutsideRange}
+use Rattle.tko_commands.specs.declared.refused_delays.RefusedDelays.{RefusedDelays}
 use Rattle.tko_cli.specs.declared.planned.ServePlan.{ServePlan}
 use Rattle.tko_options.specs.declared.serve_options.ServeOptions.{ServeOptions}
 
@@ -78,10 +80,10 @@ pub record IsFlawedPlan (options : ServeOptions) (cause : ConfigFault) : Type 0 
 
 -- the JSON is a configuration, and this setting is the first one outside its range, whether the
 -- limit is one that a group has or not
-pub record IsUnsetPlan (options : ServeOptions) (name : SettingsFault) : Type 0 where
+pub record IsUnsetPlan (options : ServeOptions) (outside : OutsideRange) : Type 0 where
   pub config : Configuration
   pub means : Means (string_bytes options.config) config
-  pub first : first_fault (plan_options options config) ≡ Some name
+  pub first : IsFirstOutside (serve_settings options (length config.addresses)) outside
 
 -- the JSON is a configuration, and the options are in their ranges
 pub record IsSet (options : ServeOptions) : Type 0 where
@@ -89,9 +91,11 @@ pub record IsSet (options : ServeOptions) : Type 0 where
   pub means : Means (string_bytes options.config) config
   pub within : IsWithinRanges (plan_options options config)
 
--- the delays are out of their range, where all before them is good
-pub record HasBadDelays (options : ServeOptions) : Type 0 where
+-- the delays, these, are out of their range, where all before them is good
+pub record HasBadDelays (options : ServeOptions) (delays : RefusedDelays) : Type 0 where
   pub set : IsSet options
+  pub first : delays.first ≡ options.first_delay
+  pub greatest : delays.greatest ≡ options.greatest_delay
   pub refused : ¬ IsRange options.first_delay options.greatest_delay
 
 -- what it is to listen on is no address, where all else is good
@@ -103,8 +107,8 @@ pub record HasNoAddress (options : ServeOptions) : Type 0 where
 -- why the options name nothing to run on: the first reason
 abbrev pub NoPlan : ServeOptions → Fault → Type 0
 NoPlan options (fault.Config cause) = IsFlawedPlan options cause
-NoPlan options (fault.Settings name) = IsUnsetPlan options name
-NoPlan options fault.Delays = HasBadDelays options
+NoPlan options (fault.Settings outside) = IsUnsetPlan options outside
+NoPlan options (fault.Delays delays) = HasBadDelays options delays
 NoPlan options (fault.Listen cause) =
     HasNoAddress options × (cause ≡ listen_fault.NoAddress)
 NoPlan options fault.Memory = Unit {0}

@@ -3,6 +3,7 @@ use Rattle.std.specs.Prelude.{◌≡◌, ◌<◌, ◌⊎◌, ℕ, true, IfSome, 
 use Rattle.tko_cli.specs.Announcements.{ready_text}
 use Rattle.tko_cli.specs.Planned.{IsServePlan, IsServerOf, NoPlan}
 use Rattle.tko_cli.specs.Totals.{totals_text}
+use Rattle.tko_commands.specs.Faults.{fault_of_setting}
 use Rattle.tko_commands.specs.declared.fault.Fault.{Fault}
 use Rattle.tko_commands.specs.declared.fault.Fault.TheVariants as fault
 use Rattle.tko_commands.specs.declared.listen_fault.ListenFault.{ListenFault}
@@ -62,7 +63,7 @@ IsRunnable prepared = IsWithinRanges (tracker_settings prepared.server)
 
 -- which fault of the program the server's is
 abbrev pub fault_of_server : ServerRunFault → Fault
-fault_of_server (server_fault.Settings name) = fault.Settings name
+fault_of_server (server_fault.Settings name) = fault_of_setting name
 fault_of_server server_fault.Memory = fault.Memory
 fault_of_server server_fault.Announce = fault.Write
 fault_of_server server_fault.Accept = fault.Accept
@@ -85,6 +86,8 @@ pub data IsSilentOrNoted {O F : Type 0} (takes : O → List ℕ → O → Type 0
 -- a line of its own says why there is this fault
 abbrev pub IsExplained : Fault → Type 0
 IsExplained (fault.Config cause) = Unit {0}
+IsExplained (fault.Settings outside) = Unit {0}
+IsExplained (fault.Delays delays) = Unit {0}
 IsExplained (fault.Listen cause) = Unit {0}
 IsExplained other = ⊥
 

@@ -3,7 +3,7 @@ ghost use Rattle.std.specs.Prelude.{◌≡◌, IfOk, IfErr};
 ghost use Rattle.tko_cli.specs.Planned.{IsServePlan, IsServerOf, NoPlan, serve_grouping, serve_keys, serve_patience};
 
 use std::alloc::Global;
-use tko_commands::{Fault, ListenFault, settings_over};
+use tko_commands::{Fault, ListenFault, RefusedDelays, settings_over};
 use tko_keys::{Grouping, KeyPlan};
 use tko_model::Settings;
 use tko_options::ServeOptions;
@@ -76,8 +76,9 @@ pub(crate) fn plan_of(alloc: Global, options: &ServeOptions) -> Result<ServePlan
 {
     let config = Config::read(alloc, options.config.as_bytes())?;
     let settings = settings_over(alloc, &config, options.settings(config.servers()))?;
-    let Some(delays) = Delays::new(options.first_delay, options.greatest_delay) else {
-        return Err(Fault::Delays);
+    let (first, greatest) = (options.first_delay, options.greatest_delay);
+    let Some(delays) = Delays::new(first, greatest) else {
+        return Err(Fault::Delays(RefusedDelays { first, greatest }));
     };
     if !is_address(options.listen.as_bytes()) {
         return Err(Fault::Listen(ListenFault::NoAddress));

@@ -11,8 +11,8 @@ use std::fs::{File, Files};
 use std::net::TcpListener;
 use std::thread::Threads;
 use tko_commands::{
-    DONE, Fault, fail, loaded_server, refuse_config, refuse_listen, run_check, run_dry, run_replay,
-    status_of, write_text,
+    DONE, Fault, fail, loaded_server, refuse_config, refuse_delays, refuse_listen, refuse_settings,
+    run_check, run_dry, run_replay, status_of, write_text,
 };
 use tko_io::{Inlet, IoRuntime, Outlet};
 use tko_options::{Asked, Refusal, ServeOptions};
@@ -112,6 +112,8 @@ fn serve_loaded<
         Err(Fault::Config(cause)) => {
             refuse_config(rt, alloc, faults, options.config.as_str(), cause)
         }
+        Err(Fault::Settings(outside)) => refuse_settings(rt, alloc, faults, outside),
+        Err(Fault::Delays(delays)) => refuse_delays(rt, alloc, faults, delays),
         Err(Fault::Listen(cause)) => {
             refuse_listen(rt, alloc, faults, options.listen.as_str(), cause)
         }

@@ -157,7 +157,7 @@ fn fault_of_server(cause: ServerRunFault) -> Fault
     ensures { result ≡ fault_of_server cause }
 {
     match cause {
-        ServerRunFault::Settings(setting) => Fault::Settings(setting),
+        ServerRunFault::Settings(setting) => Fault::from(setting),
         ServerRunFault::Memory => Fault::Memory,
         ServerRunFault::Announce => Fault::Write,
         ServerRunFault::Accept => Fault::Accept,

@@ -4,17 +4,16 @@ use Rattle.std.specs.Prelude.{codes, decimal}
 use Rattle.std.proofs.lemmas.List.{length-map, map-append}
 use Rattle.std.proofs.lemmas.List.FromFn.{length-map-range_with_len, map-range_with_len_more}
 use Rattle.tko_model.specs.Limits.{max_servers}
-use Rattle.tko_model.specs.Ranges.{first_fault}
-use Rattle.tko_model.specs.Settings.{in_one_group}
-use Rattle.tko_model.specs.declared.settings.SettingsFault.{SettingsFault}
 use Rattle.tko_pools.specs.Configs.{Refuses}
 use Rattle.tko_pools.specs.declared.fault.ConfigFault.{ConfigFault}
 use Rattle.tko_pools.specs.declared.fault.ConfigFault.TheVariants as config_fault
+use Rattle.tko_commands.specs.declared.fault.Fault.{Fault}
 use Rattle.tko_commands.specs.declared.fault.Fault.TheVariants as fault
 use Rattle.tko_options.specs.declared.dry_options.DryOptions.{DryOptions}
 use Rattle.tko_commands.specs.Configured.{IsFlawed, NoConfig, json_in, scripted_names}
 use Rattle.tko_options.specs.Trackers.{dry_settings}
 use Rattle.tko_commands.specs.Faults.{fault_of_config}
+use Rattle.tko_commands.specs.Grouped.{NoSettings}
 
 flawed : (options : DryOptions) (json : List ℕ) (cause : ConfigFault)
     → json_in options ≡ Some json → Refuses json cause → fault_of_config cause ≡ fault.Config cause
@@ -59,6 +58,21 @@ names-few text names count e few =
     omega (arith, all, same, few)
 
 -- without a configuration the settings are judged first
-pub unset : (options : DryOptions) (name : SettingsFault) → options.config ≡ None
-    → first_fault (in_one_group (dry_settings options options.servers)) ≡ Some name → NoConfig options (fault.Settings name)
-unset options name alone first = record { alone = rw alone refl; first = first }
+pub unset : (options : DryOptions) (reason : Fault) → options.config ≡ None
+    → NoSettings (dry_settings options options.servers) reason → NoConfig options reason
+unset options (fault.Settings outside) alone first = record { alone = rw alone refl; first = first }
+unset options fault.Memory alone none = tt
+unset options fault.Read alone none = absurd none
+unset options fault.Write alone none = absurd none
+unset options fault.LineTooLong alone none = absurd none
+unset options (fault.Config cause) alone none = absurd none
+unset options fault.ConfigFile alone none = absurd none
+unset options (fault.Against cause) alone none = absurd none
+unset options (fault.KeysFile unread) alone none = absurd none
+unset options (fault.Outcomes number) alone none = absurd none
+unset options (fault.Line number) alone none = absurd none
+unset options fault.Check alone none = absurd none
+unset options (fault.Delays delays) alone none = absurd none
+unset options (fault.Listen cause) alone none = absurd none
+unset options fault.Metrics alone none = absurd none
+unset options fault.Accept alone none = absurd none

@@ -2,8 +2,6 @@
 use Rattle.std.proofs.Common.{◌≡◌, ◌<◌, ℕ, List, length, Some, true, Option, refl, subst, sym}
 use Rattle.std.proofs.lemmas.List.{length-replicate}
 use Rattle.std.proofs.lemmas.List.FromFn.{length-map-range_with_len}
-use Rattle.tko_model.specs.Ranges.{first_fault}
-use Rattle.tko_model.specs.Settings.{in_one_group}
 use Rattle.tko_model.specs.Tracker.{Tracker, opened}
 use Rattle.tko_model.specs.declared.plain.OpenFault.{OpenFault}
 use Rattle.tko_model.specs.declared.plain.OpenFault.TheVariants as open_fault
@@ -20,6 +18,7 @@ use Rattle.tko_reply.specs.Answers.{Reaches}
 use Rattle.tko_pools.specs.Configs.{Configuration, in_order}
 use Rattle.tko_commands.specs.declared.fault.Fault.{Fault}
 use Rattle.tko_commands.specs.declared.fault.Fault.TheVariants as fault
+use Rattle.tko_commands.specs.declared.outside_range.OutsideRange.{OutsideRange}
 use Rattle.tko_options.specs.declared.dry_options.DryOptions.{DryOptions}
 use Rattle.tko_commands.specs.Configured.{ConfigOf, IsConfigured, IsUnset, NoConfig, scripted_names}
 use Rattle.tko_options.specs.Trackers.{dry_settings}
@@ -27,18 +26,19 @@ use Rattle.tko_commands.specs.DryRuns.{AreFresh, BeginsDryRun, DryFails, DryPart
 use Rattle.tko_commands.specs.Grouped.{NoSettings}
 use Rattle.tko_commands.specs.Faults.{fault_of_opening, fault_of_outcomes, fault_of_session}
 use Rattle.tko_commands.specs.Outcomes.{AllAsk, RefusesOutcomes}
+use Rattle.tko_commands.specs.OutsideRanges.{IsFirstOutside}
 use Rattle.tko_commands.specs.Texts.{WritesFront, trails_text}
 use Rattle.tko_commands.specs.declared.outcomes.OutcomesFault.{OutcomesFault}
 use Rattle.tko_commands.specs.declared.outcomes.OutcomesFault.TheVariants as outcomes_fault
 
 -- without a configuration there are as many servers as the options say
-outside_alone : (options : DryOptions) (name : SettingsFault) (scripts : List Script) → AllAsk (words_in options) scripts
-    → IsUnset options name → IsOutside options name
-outside_alone options name scripts asked unset =
+outside_alone : (options : DryOptions) (outside : OutsideRange) (scripts : List Script)
+    → AllAsk (words_in options) scripts → IsUnset options outside → IsOutside options outside
+outside_alone options outside scripts asked unset =
     let names = scripted_names options.servers in
     let count : length names ≡ options.servers = length-map-range_with_len _ 0 options.servers in
     let P : Option (List ℕ) → Type 0 = λ json. ConfigOf json options.servers (in_order names) in
-    let Q : ℕ → Type 0 = λ n. first_fault (in_one_group (dry_settings options n)) ≡ Some name in
+    let Q : ℕ → Type 0 = λ n. IsFirstOutside (dry_settings options n) outside in
     record {
       scripts = scripts;
       asked = asked;
@@ -167,8 +167,8 @@ module _ {I O : Type 0} (inlet : InletGhosts I) (outlet : OutletGhosts O) where
       → DryFails inlet outlet options here here reason
   not_configured options here scripts (fault.Config cause) asked flawed =
       (record { scripts = scripts; asked = asked; flawed = flawed }, refl, refl)
-  not_configured options here scripts (fault.Settings name) asked unset =
-      (outside_alone options name scripts asked unset, refl, refl)
+  not_configured options here scripts (fault.Settings outside) asked unset =
+      (outside_alone options outside scripts asked unset, refl, refl)
   not_configured options here scripts fault.Memory asked none = at_first refl refl
   not_configured options here scripts fault.ConfigFile asked none = absurd none
   not_configured options here scripts (fault.Against cause) asked none = absurd none
@@ -179,7 +179,7 @@ module _ {I O : Type 0} (inlet : InletGhosts I) (outlet : OutletGhosts O) where
   not_configured options here scripts (fault.Outcomes number) asked none = absurd none
   not_configured options here scripts (fault.Line number) asked none = absurd none
   not_configured options here scripts fault.Check asked none = absurd none
-  not_configured options here scripts fault.Delays asked none = absurd none
+  not_configured options here scripts (fault.Delays delays) asked none = absurd none
   not_configured options here scripts (fault.Listen cause) asked none = absurd none
   not_configured options here scripts fault.Metrics asked none = absurd none
   not_configured options here scripts fault.Accept asked none = absurd none
@@ -189,15 +189,15 @@ module _ {I O : Type 0} (inlet : InletGhosts I) (outlet : OutletGhosts O) where
       → AllAsk (words_in options) scripts → IsConfigured options config
       → NoSettings (dry_settings options (length config.addresses)) reason
       → DryFails inlet outlet options here here reason
-  not_set options here scripts config (fault.Settings name) asked configured first =
-      let outside : IsOutside options name = record {
+  not_set options here scripts config (fault.Settings outside) asked configured first =
+      let is : IsOutside options outside = record {
         scripts = scripts;
         asked = asked;
         config = config;
         configured = configured;
         first = first;
       } in
-      (outside, refl, refl)
+      (is, refl, refl)
   not_set options here scripts config fault.Memory asked configured none = at_first refl refl
   not_set options here scripts config fault.Read asked configured none = absurd none
   not_set options here scripts config fault.Write asked configured none = absurd none
@@ -209,7 +209,7 @@ module _ {I O : Type 0} (inlet : InletGhosts I) (outlet : OutletGhosts O) where
   not_set options here scripts config (fault.Outcomes number) asked configured none = absurd none
   not_set options here scripts config (fault.Line number) asked configured none = absurd none
   not_set options here scripts config fault.Check asked configured none = absurd none
-  not_set options here scripts config fault.Delays asked configured none = absurd none
+  not_set options here scripts config (fault.Delays delays) asked configured none = absurd none
   not_set options here scripts config (fault.Listen cause) asked configured none = absurd none
   not_set options here scripts config fault.Metrics asked configured none = absurd none
   not_set options here scripts config fault.Accept asked configured none = absurd none

@@ -1,11 +1,14 @@
 -- A line that says why, before the line of a fault.
-use Rattle.std.proofs.Common.{◌≡◌, ℕ, ◌<◌, List, Err, Ok, OnErr, OnOk, Result}
+use Rattle.std.proofs.Common.{◌≡◌, ℕ, ◌<◌, List, Err, IsSomeAnd, Ok, OnErr, OnOk, Option, Result, Some, subst, sym}
 use Rattle.tko_explain.specs.Reasons.{IsReasonOf}
 use Rattle.tko_pools.specs.declared.fault.ConfigFault.{ConfigFault}
 use Rattle.tko_commands.specs.FaultLines.{IsFaultWritten, IsReasonTold}
+use Rattle.tko_commands.specs.OutsideRanges.{IsRangeReason, range_line}
 use Rattle.tko_commands.specs.Reasons.{HasLineOf, Written, LeftOut, Failed, IsFileReason, IsListenReason, IsReasonFor}
 use Rattle.tko_commands.specs.declared.fault.Fault.{Fault}
 use Rattle.tko_commands.specs.declared.listen_fault.ListenFault.{ListenFault}
+use Rattle.tko_commands.specs.declared.outside_range.OptionRange.{OptionRange}
+use Rattle.tko_commands.specs.declared.outside_range.OutsideRange.{OutsideRange}
 use Rattle.tko_commands.specs.declared.fault.Fault.TheVariants as fault
 
 pub has_line : {O T E : Type 0} (takes : O → List ℕ → O → Type 0) (failures : O → ℕ) (is : List ℕ → Type 0)
@@ -37,6 +40,13 @@ pub against_reason : {O : Type 0} (takes : O → List ℕ → O → Type 0) (fai
 against_reason takes failures json cause old new it =
     line_as takes failures (IsReasonOf json cause) (IsReasonFor (fault.Against cause)) old new
     (λ line good. (json, good)) it
+
+-- which option gives a number outside its range
+pub range_reason : (outside : OutsideRange) (range : OptionRange) (line : List ℕ) → outside.option ≡ Some range
+    → line ≡ range_line outside.setting range → IsRangeReason outside line
+range_reason outside range line some is =
+    let P : Option OptionRange → Type 0 = λ option. IsSomeAnd option (λ it. line ≡ range_line outside.setting it) in
+    subst P (sym some) is
 
 -- why a file cannot be read
 pub file_reason : {O : Type 0} (takes : O → List ℕ → O → Type 0) (failures : O → ℕ) (path : List ℕ)

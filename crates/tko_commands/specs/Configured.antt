@@ -1,14 +1,13 @@
 -- The configuration of a dry run, and why there is none.
 use Rattle.std.specs.Prelude.{◌≡◌, ℕ, List, ◌++◌, map, codes, decimal, Option, Some, None, option_map, string_bytes}
-use Rattle.tko_model.specs.Ranges.{first_fault}
-use Rattle.tko_model.specs.Settings.{in_one_group}
-use Rattle.tko_model.specs.declared.settings.SettingsFault.{SettingsFault}
 use Rattle.tko_pools.specs.Configs.{Configuration, Means, Refuses, in_order, numbers_below}
 use Rattle.tko_pools.specs.declared.fault.ConfigFault.{ConfigFault}
 use Rattle.tko_commands.specs.declared.fault.Fault.{Fault}
 use Rattle.tko_commands.specs.declared.fault.Fault.TheVariants as fault
 use Rattle.tko_options.specs.declared.dry_options.DryOptions.{DryOptions}
 use Rattle.tko_commands.specs.Faults.{fault_of_config}
+use Rattle.tko_commands.specs.OutsideRanges.{IsFirstOutside}
+use Rattle.tko_commands.specs.declared.outside_range.OutsideRange.{OutsideRange}
 use Rattle.tko_options.specs.Trackers.{dry_settings}
 
 -- the JSON of the configuration, if the options have one
@@ -37,13 +36,13 @@ pub record IsFlawed (options : DryOptions) (cause : ConfigFault) : Type 0 where
   pub reason : fault_of_config cause ≡ fault.Config cause
 
 -- without a configuration, this setting is the first one outside its range
-pub record IsUnset (options : DryOptions) (name : SettingsFault) : Type 0 where
+pub record IsUnset (options : DryOptions) (outside : OutsideRange) : Type 0 where
   pub alone : json_in options ≡ None
-  pub first : first_fault (in_one_group (dry_settings options options.servers)) ≡ Some name
+  pub first : IsFirstOutside (dry_settings options options.servers) outside
 
 -- why the options name no configuration
 abbrev pub NoConfig : DryOptions → Fault → Type 0
 NoConfig options (fault.Config cause) = IsFlawed options cause
-NoConfig options (fault.Settings name) = IsUnset options name
+NoConfig options (fault.Settings outside) = IsUnset options outside
 NoConfig options fault.Memory = Unit {0}
 NoConfig options _ = ⊥

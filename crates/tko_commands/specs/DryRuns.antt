@@ -3,10 +3,8 @@ use Rattle.std.specs.Prelude.{◌≡◌, ◌<◌, ℕ, Bool, true, false, Some, 
 use Rattle.tko_session.specs.Ends.{IsCalm, SessionStops}
 use Rattle.tko_session.specs.declared.fault.SessionFault.{SessionFault}
 use Rattle.tko_session.specs.declared.fault.SessionFault.TheVariants as session_fault
-use Rattle.tko_model.specs.Ranges.{first_fault}
-use Rattle.tko_model.specs.Settings.{Settings, in_one_group}
+use Rattle.tko_model.specs.Settings.{Settings}
 use Rattle.tko_model.specs.Tracker.{Tracker, opened}
-use Rattle.tko_model.specs.declared.settings.SettingsFault.{SettingsFault}
 use Rattle.tko_route.specs.declared.attempt.Attempt.{Attempt}
 use Rattle.tko_links.specs.declared.scripted.Script.{Script}
 use Rattle.tko_health.specs.Health.{OneThread, IsGranted, IsTrackerStep}
@@ -28,8 +26,10 @@ use Rattle.tko_pools.specs.Configs.{Configuration}
 use Rattle.tko_pools.specs.declared.fault.ConfigFault.{ConfigFault}
 use Rattle.tko_commands.specs.Configured.{IsConfigured, IsFlawed}
 use Rattle.tko_commands.specs.Grouped.{grouped}
+use Rattle.tko_commands.specs.OutsideRanges.{IsFirstOutside}
 use Rattle.tko_commands.specs.declared.fault.Fault.{Fault}
 use Rattle.tko_commands.specs.declared.fault.Fault.TheVariants as fault
+use Rattle.tko_commands.specs.declared.outside_range.OutsideRange.{OutsideRange}
 use Rattle.tko_options.specs.declared.dry_options.DryOptions.{DryOptions}
 use Rattle.tko_options.specs.Trackers.{dry_settings}
 use Rattle.tko_commands.specs.Outcomes.{AllAsk, first_bad, words_of}
@@ -94,13 +94,12 @@ pub record IsNoConfig (options : DryOptions) (cause : ConfigFault) : Type 0 wher
 
 -- every word of the list is good, so is the configuration, and this is the first setting that is
 -- outside its range
-pub record IsOutside (options : DryOptions) (name : SettingsFault) : Type 0 where
+pub record IsOutside (options : DryOptions) (outside : OutsideRange) : Type 0 where
   pub scripts : List Script
   pub asked : AllAsk (words_in options) scripts
   pub config : Configuration
   pub configured : IsConfigured options config
-  pub first :
-      first_fault (in_one_group (dry_settings options (length config.addresses))) ≡ Some name
+  pub first : IsFirstOutside (dry_settings options (length config.addresses)) outside
 
 -- the number of sends to a server
 abbrev pub scripted_sends : ScriptedState → ℕ → ℕ
@@ -201,8 +200,8 @@ module _ {I O : Type 0} (inlet : InletGhosts I) (outlet : OutletGhosts O)
       (first_bad (words_in options) ≡ Some number) × (new.0 ≡ old.0) × (new.1 ≡ old.1)
   DryFails old new (fault.Config cause) =
       IsNoConfig options cause × (new.0 ≡ old.0) × (new.1 ≡ old.1)
-  DryFails old new (fault.Settings name) =
-      IsOutside options name × (new.0 ≡ old.0) × (new.1 ≡ old.1)
+  DryFails old new (fault.Settings outside) =
+      IsOutside options outside × (new.0 ≡ old.0) × (new.1 ≡ old.1)
   DryFails old new fault.Read = SessionFails session_fault.Read old new
   DryFails old new fault.Write = OutputFails old new
   DryFails old new fault.LineTooLong = SessionFails session_fault.LineTooLong old new
@@ -212,7 +211,7 @@ module _ {I O : Type 0} (inlet : InletGhosts I) (outlet : OutletGhosts O)
   DryFails old new fault.ConfigFile = ⊥
   DryFails old new (fault.Against cause) = ⊥
   DryFails old new (fault.KeysFile unread) = ⊥
-  DryFails old new fault.Delays = ⊥
+  DryFails old new (fault.Delays delays) = ⊥
   DryFails old new (fault.Listen cause) = ⊥
   DryFails old new fault.Metrics = ⊥
   DryFails old new fault.Accept = ⊥

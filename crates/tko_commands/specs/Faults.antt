@@ -1,5 +1,5 @@
 -- The line that reports each fault, and which fault of the program each cause is.
-use Rattle.std.specs.Prelude.{ℕ, List, ◌++◌, codes, decimal, string_bytes}
+use Rattle.std.specs.Prelude.{ℕ, List, ◌++◌, None, codes, decimal, string_bytes}
 use Rattle.tko_model.specs.declared.plain.OpenFault.{OpenFault}
 use Rattle.tko_model.specs.declared.plain.OpenFault.TheVariants as open_fault
 use Rattle.tko_model.specs.declared.settings.SettingsFault.{SettingsFault}
@@ -21,6 +21,7 @@ use Rattle.tko_commands.specs.declared.listen_fault.ListenFault.{ListenFault}
 use Rattle.tko_commands.specs.declared.listen_fault.ListenFault.TheVariants as listen_fault
 use Rattle.tko_commands.specs.declared.outcomes.OutcomesFault.{OutcomesFault}
 use Rattle.tko_commands.specs.declared.outcomes.OutcomesFault.TheVariants as outcomes_fault
+use Rattle.tko_commands.specs.declared.outside_range.OutsideRange.{OutsideRange}
 use Rattle.tko_commands.specs.declared.reading.InputFault.{InputFault}
 use Rattle.tko_commands.specs.declared.reading.InputFault.TheVariants as read_fault
 
@@ -58,7 +59,7 @@ fault_line fault.Read = codes "fault: read"
 fault_line fault.Write = codes "fault: write"
 fault_line fault.LineTooLong = codes "fault: line too long"
 fault_line fault.Memory = codes "fault: memory"
-fault_line (fault.Settings name) = codes "fault: settings " ++ setting_name name
+fault_line (fault.Settings outside) = codes "fault: settings " ++ setting_name outside.setting
 fault_line (fault.Config cause) = codes "fault: config " ++ config_name cause
 fault_line (fault.Against cause) = codes "fault: against " ++ config_name cause
 fault_line fault.ConfigFile = codes "fault: config file"
@@ -66,7 +67,7 @@ fault_line (fault.KeysFile unread) = codes "fault: keys file"
 fault_line (fault.Outcomes number) = codes "fault: outcomes " ++ decimal number
 fault_line (fault.Line number) = codes "fault: schedule line " ++ decimal number
 fault_line fault.Check = codes "fault: check"
-fault_line fault.Delays = codes "fault: delays"
+fault_line (fault.Delays delays) = codes "fault: delays"
 fault_line (fault.Listen cause) = codes "fault: listen"
 fault_line fault.Metrics = codes "fault: metrics"
 fault_line fault.Accept = codes "fault: accept"
@@ -107,9 +108,17 @@ abbrev pub fault_of_keys : KeysFault → Fault
 fault_of_keys (keys_fault.Config cause) = fault_of_config cause
 fault_of_keys (keys_fault.Against cause) = fault_of_other cause
 
+-- a setting outside its range that no option gives
+abbrev pub without_option : SettingsFault → OutsideRange
+without_option name = record { setting = name; option = None }
+
+-- of a setting that no option gives
+abbrev pub fault_of_setting : SettingsFault → Fault
+fault_of_setting name = fault.Settings (without_option name)
+
 -- of opening a tracker
 abbrev pub fault_of_opening : OpenFault → Fault
-fault_of_opening (open_fault.Settings name) = fault.Settings name
+fault_of_opening (open_fault.Settings name) = fault_of_setting name
 fault_of_opening open_fault.Memory = fault.Memory
 
 -- of a session
@@ -127,7 +136,7 @@ fault_of_reading read_fault.Memory = fault.Memory
 -- of a schedule
 abbrev pub fault_of_schedule : ScheduleFault → Fault
 fault_of_schedule (schedule_fault.Line number) = fault.Line number
-fault_of_schedule (schedule_fault.Settings name) = fault.Settings name
+fault_of_schedule (schedule_fault.Settings name) = fault_of_setting name
 fault_of_schedule schedule_fault.Memory = fault.Memory
 
 -- of the check of a run

@@ -1,9 +1,8 @@
 -- The settings of a tracker over the pools of a configuration.
-use Rattle.std.specs.Prelude.{◌≡◌, Some}
-use Rattle.tko_model.specs.Ranges.{first_fault}
 use Rattle.tko_model.specs.Settings.{Settings, in_one_group}
 use Rattle.tko_model.specs.declared.one_group.OneGroup.{OneGroup}
 use Rattle.tko_pools.specs.Configs.{Configuration, limits_of}
+use Rattle.tko_commands.specs.OutsideRanges.{IsFirstOutside}
 use Rattle.tko_commands.specs.declared.fault.Fault.{Fault}
 use Rattle.tko_commands.specs.declared.fault.Fault.TheVariants as fault
 
@@ -17,6 +16,6 @@ grouped config options = record (in_one_group options) {
 
 -- why there are no settings: an option is outside its range, or memory ran out
 abbrev pub NoSettings : OneGroup → Fault → Type 0
-NoSettings options (fault.Settings name) = first_fault (in_one_group options) ≡ Some name
+NoSettings options (fault.Settings outside) = IsFirstOutside options outside
 NoSettings options fault.Memory = Unit {0}
 NoSettings options _ = ⊥

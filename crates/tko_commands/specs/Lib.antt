@@ -8,6 +8,7 @@ pub mod Grouped
 pub mod KeyLists
 pub mod NotDone
 pub mod Outcomes
+pub mod OutsideRanges
 pub mod Readings
 pub mod Reasons
 pub mod Replays

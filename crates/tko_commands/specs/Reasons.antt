@@ -3,6 +3,7 @@ use Rattle.std.specs.Prelude.{◌≡◌, ◌<◌, ℕ, List, ◌++◌, None, cod
 use Rattle.tko_explain.specs.Reasons.{IsReasonOf}
 use Rattle.tko_pools.specs.declared.fault.ConfigFault.{ConfigFault}
 use Rattle.tko_commands.specs.Faults.{listen_words}
+use Rattle.tko_commands.specs.OutsideRanges.{IsDelaysReason, IsRangeReason}
 use Rattle.tko_commands.specs.declared.fault.Fault.{Fault}
 use Rattle.tko_commands.specs.declared.fault.Fault.TheVariants as fault
 use Rattle.tko_commands.specs.declared.listen_fault.ListenFault.{ListenFault}
@@ -28,12 +29,15 @@ IsListenReason cause address line =
     line ≡ codes "listen: " ++ address ++ codes ": " ++ listen_words cause ++ codes "\n"
 
 -- a line that says why a command ends with a fault: of which text the configuration is to be, which
--- file cannot be read, or why nothing can listen at which address. No other fault has one.
+-- option is outside which range, how the delays of probes have to be, which file cannot be read, or
+-- why nothing can listen at which address. No other fault has one.
 abbrev pub IsReasonFor : Fault → List ℕ → Type 0
 IsReasonFor (fault.Config cause) line = (json : List ℕ) × IsReasonOf json cause line
 IsReasonFor (fault.Against cause) line = (json : List ℕ) × IsReasonOf json cause line
 IsReasonFor fault.ConfigFile line = (path : List ℕ) × IsFileReason path line
 IsReasonFor (fault.KeysFile unread) line = IsKeysReason unread line
+IsReasonFor (fault.Settings outside) line = IsRangeReason outside line
+IsReasonFor (fault.Delays delays) line = IsDelaysReason delays line
 IsReasonFor (fault.Listen cause) line = (address : List ℕ) × IsListenReason cause address line
 IsReasonFor other line = ⊥
 

@@ -1,5 +1,5 @@
 -- What a replay reads and writes, and why it fails.
-use Rattle.std.specs.Prelude.{◌≡◌, ◌<◌, ◌+◌, ℕ, List, Ok, Err}
+use Rattle.std.specs.Prelude.{◌≡◌, ◌<◌, ◌+◌, ℕ, List, None, Ok, Err}
 use Rattle.tko_commands.specs.declared.fault.Fault.{Fault}
 use Rattle.tko_commands.specs.declared.fault.Fault.TheVariants as fault
 use Rattle.tko_runs.specs.declared.schedule.fault.ScheduleFault.{ScheduleFault}
@@ -45,13 +45,15 @@ pub record IsNoSchedule {I : Type 0} (gives : I → List ℕ → I → Type 0) (
 
 module _ {I O : Type 0} (gives : I → List ℕ → I → Type 0) (is_ended : I → Type 0)
     (read_failures : I → ℕ) (write_failures : O → ℕ) where
-  -- why a replay fails: the text is no schedule, an end failed, or memory ran out; a run that was
-  -- played is never refused, and nothing went out but where writing failed
+  -- why a replay fails: the text is no schedule, of which no option gives a setting, an end failed,
+  -- or memory ran out; a run that was played is never refused, and nothing went out but where
+  -- writing failed
   abbrev pub ReplayFails : I → I → O → O → Fault → Type 0
   ReplayFails old new from to (fault.Line number) =
       IsNoSchedule gives is_ended old new (schedule_fault.Line number) × (to ≡ from)
-  ReplayFails old new from to (fault.Settings name) =
-      IsNoSchedule gives is_ended old new (schedule_fault.Settings name) × (to ≡ from)
+  ReplayFails old new from to (fault.Settings outside) =
+      IsNoSchedule gives is_ended old new (schedule_fault.Settings outside.setting)
+      × (outside.option ≡ None) × (to ≡ from)
   ReplayFails old new from to fault.Read = (read_failures old < read_failures new) × (to ≡ from)
   ReplayFails old new from to fault.Write = write_failures from < write_failures to
   ReplayFails old new from to fault.Memory = to ≡ from
@@ -62,7 +64,7 @@ module _ {I O : Type 0} (gives : I → List ℕ → I → Type 0) (is_ended : I 
   ReplayFails old new from to fault.ConfigFile = ⊥
   ReplayFails old new from to (fault.Against cause) = ⊥
   ReplayFails old new from to (fault.KeysFile unread) = ⊥
-  ReplayFails old new from to fault.Delays = ⊥
+  ReplayFails old new from to (fault.Delays delays) = ⊥
   ReplayFails old new from to (fault.Listen cause) = ⊥
   ReplayFails old new from to fault.Metrics = ⊥
   ReplayFails old new from to fault.Accept = ⊥

@@ -1,9 +1,9 @@
 //! Which fault of the program each cause is.
 
-use crate::Fault;
 use crate::outcomes::OutcomesFault;
 use crate::reading::InputFault;
 use crate::writing::WriteFault;
+use crate::{Fault, OutsideRange};
 use std::alloc::AllocError;
 use tko_bytes::NoMemory;
 use tko_explain::KeysFault;
@@ -67,13 +67,13 @@ impl From<OutcomesFault> for Fault {
 }
 
 impl From<SettingsFault> for Fault {
+    ghost use Rattle.tko_commands.specs.Faults.{fault_of_setting};
     ghost use Rattle.std.specs.Prelude.{◌≡◌};
-    ghost use Rattle.tko_commands.specs.declared.fault.Fault.TheVariants as fault;
 
-    ghost from_gives = { λ cause result. result ≡ fault.Settings cause };
+    ghost from_gives = { λ cause fault. fault ≡ fault_of_setting cause };
 
     fn from(cause: SettingsFault) -> Fault {
-        Fault::Settings(cause)
+        Fault::Settings(OutsideRange::without_option(cause))
     }
 }
 
@@ -85,7 +85,7 @@ impl From<OpenFault> for Fault {
 
     fn from(cause: OpenFault) -> Fault {
         match cause {
-            OpenFault::Settings(setting) => Fault::Settings(setting),
+            OpenFault::Settings(setting) => Fault::from(setting),
             OpenFault::Memory => Fault::Memory,
         }
     }
@@ -141,7 +141,7 @@ impl From<ScheduleFault> for Fault {
     fn from(cause: ScheduleFault) -> Fault {
         match cause {
             ScheduleFault::Line(number) => Fault::Line(number),
-            ScheduleFault::Settings(setting) => Fault::Settings(setting),
+            ScheduleFault::Settings(setting) => Fault::from(setting),
             ScheduleFault::Memory => Fault::Memory,
         }
     }

@@ -5,6 +5,7 @@ ghost use Rattle.tko_pools.specs.Configs.{in_order};
 ghost use Rattle.tko_commands.specs.Configured.{IsConfigured, NoConfig, scripted_names};
 
 use crate::Fault;
+use crate::grouped::settings_within;
 use std::alloc::Global;
 use tko_bytes::NoMemory;
 use tko_options::DryOptions;
@@ -18,8 +19,7 @@ pub(crate) fn config_of(alloc: Global, options: &DryOptions) -> Result<Config, F
     match &options.config {
         Some(json) => Ok(Config::read(alloc, json.as_bytes())?),
         None => {
-            let settings = options.settings(options.servers).settings(alloc)?;
-            settings.check()?;
+            settings_within(alloc, &options.settings(options.servers))?;
             Ok(scripted_config(alloc, options.servers)?)
         }
     }

@@ -2,7 +2,7 @@
 ghost use Rattle.std.specs.Prelude.{◌≡◌};
 ghost use Rattle.tko_commands.specs.Faults.{config_name, setting_name};
 
-use crate::{ListenFault, UnreadKeys};
+use crate::{ListenFault, OutsideRange, RefusedDelays, UnreadKeys};
 use std::error::Error;
 use std::fmt;
 use tko_model::SettingsFault;
@@ -15,7 +15,8 @@ pub enum Fault {
     Write,
     LineTooLong,
     Memory,
-    Settings(SettingsFault),
+    /// The first setting outside its range.
+    Settings(OutsideRange),
     /// Why the text is no configuration.
     Config(ConfigFault),
     /// Why the text of the configuration that keys are compared with is none.
@@ -31,7 +32,7 @@ pub enum Fault {
     /// The check refuses the run that was played.
     Check,
     /// The first delay of probes is 0 or above the greatest.
-    Delays,
+    Delays(RefusedDelays),
     /// Why nothing can listen at the address that clients are to connect to.
     Listen(ListenFault),
     /// The address of the metrics is no address, or nothing can listen there.
@@ -52,8 +53,8 @@ impl fmt::Display for Fault {
             Fault::Write => f.write_str("fault: write"),
             Fault::LineTooLong => f.write_str("fault: line too long"),
             Fault::Memory => f.write_str("fault: memory"),
-            Fault::Settings(setting) => {
-                let name = setting_name(*setting);
+            Fault::Settings(outside) => {
+                let name = setting_name(outside.setting);
                 write!(f, "fault: settings {name}")
             }
             Fault::Config(cause) => {
@@ -69,7 +70,7 @@ impl fmt::Display for Fault {
             Fault::Outcomes(number) => write!(f, "fault: outcomes {number}"),
             Fault::Line(number) => write!(f, "fault: schedule line {number}"),
             Fault::Check => f.write_str("fault: check"),
-            Fault::Delays => f.write_str("fault: delays"),
+            Fault::Delays(_) => f.write_str("fault: delays"),
             Fault::Listen(_) => f.write_str("fault: listen"),
             Fault::Metrics => f.write_str("fault: metrics"),
             Fault::Accept => f.write_str("fault: accept"),
@@ -80,7 +81,7 @@ impl fmt::Display for Fault {
 impl Error for Fault {}
 
 /// The word that names a setting.
-fn setting_name(setting: SettingsFault) -> &'static str
+pub(crate) fn setting_name(setting: SettingsFault) -> &'static str
     ensures { result.now ≡ setting_name setting }
 {
     match setting {

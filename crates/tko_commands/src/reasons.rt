@@ -1,10 +1,13 @@
 //! Why there is a fault, in a line before that of the fault.
 ghost use Rattle.std.specs.Prelude.{◌++◌, ◌≡◌, IfOk, codes};
 ghost use Rattle.tko_explain.specs.Reasons.{IsReasonOf};
+ghost use Rattle.tko_commands.specs.OutsideRanges.{IsDelaysReason, IsRangeReason};
 ghost use Rattle.tko_commands.specs.Reasons.{HasLineOf, IsKeysReason, IsListenReason};
 
+use crate::outside_range::range_line;
+use crate::refused_delays::delays_line;
 use crate::writing::write_text;
-use crate::{ListenFault, UnreadKeys};
+use crate::{ListenFault, OutsideRange, RefusedDelays, UnreadKeys};
 use std::alloc::Global;
 use tko_bytes::NoMemory;
 use tko_explain::reason;
@@ -23,6 +26,39 @@ pub(crate) fn write_config_reason<R: IoRuntime, F: Outlet>(
     ensures { HasLineOf F.takes F.failures (IsReasonOf json.now cause.now) faults.old faults.new }
 {
     if let Ok(line) = reason(alloc, json.as_bytes(), cause) {
+        let _ = write_text(rt, faults, &line);
+    }
+}
+
+/// Writes which option gives a setting outside its range, where one does. The line is left out
+/// where memory runs out for it, and a failure to write it is not reported.
+pub(crate) fn write_range_reason<R: IoRuntime, F: Outlet>(
+    rt: &R,
+    alloc: Global,
+    faults: &mut F,
+    outside: OutsideRange,
+)
+    ensures { HasLineOf F.takes F.failures (IsRangeReason outside) faults.old faults.new }
+{
+    let Some(range) = outside.option else {
+        return;
+    };
+    if let Ok(line) = range_line(alloc, outside.setting, range) {
+        let _ = write_text(rt, faults, &line);
+    }
+}
+
+/// Writes why delays of probes are refused. The line is left out where memory runs out for it, and
+/// a failure to write it is not reported.
+pub(crate) fn write_delays_reason<R: IoRuntime, F: Outlet>(
+    rt: &R,
+    alloc: Global,
+    faults: &mut F,
+    delays: RefusedDelays,
+)
+    ensures { HasLineOf F.takes F.failures (IsDelaysReason delays) faults.old faults.new }
+{
+    if let Ok(line) = delays_line(alloc, delays) {
         let _ = write_text(rt, faults, &line);
     }
 }

@@ -4,9 +4,12 @@ ghost use Rattle.std.specs.Prelude.{◌≡◌, ◌<◌, OnOk, OnErr};
 ghost use Rattle.tko_commands.specs.FaultLines.{HasFaultLine, IsFaultWritten, IsReasonTold};
 
 use crate::key_lists::against_of;
-use crate::reasons::{write_config_reason, write_keys_reason, write_listen_reason};
+use crate::reasons::{
+    write_config_reason, write_delays_reason, write_keys_reason, write_listen_reason,
+    write_range_reason,
+};
 use crate::writing::{WriteFault, write_text};
-use crate::{Fault, ListenFault, UnreadKeys};
+use crate::{Fault, ListenFault, OutsideRange, RefusedDelays, UnreadKeys};
 use std::alloc::Global;
 use tko_io::{IoRuntime, Outlet};
 use tko_options::CheckOptions;
@@ -46,6 +49,37 @@ pub(crate) fn refuse_against<R: IoRuntime, F: Outlet>(
 {
     write_config_reason(rt, alloc, faults, against_of(options).unwrap_or(""), &cause);
     fail(rt, alloc, faults, Fault::Against(cause))
+}
+
+/// Reports which option gives a setting outside its range, where one does, and then the fault.
+/// Returns its status.
+pub fn refuse_settings<R: IoRuntime, F: Outlet>(
+    rt: &R,
+    alloc: Global,
+    faults: &mut F,
+    outside: OutsideRange,
+) -> u8
+    ensures status { result ≡ 1 }
+    ensures fault { IsReasonTold F.takes F.failures (λ fault. fault ≡ Fault.Settings outside)
+        faults.old faults.new }
+{
+    write_range_reason(rt, alloc, faults, outside);
+    fail(rt, alloc, faults, Fault::Settings(outside))
+}
+
+/// Reports why delays of probes are refused, and then the fault. Returns its status.
+pub fn refuse_delays<R: IoRuntime, F: Outlet>(
+    rt: &R,
+    alloc: Global,
+    faults: &mut F,
+    delays: RefusedDelays,
+) -> u8
+    ensures status { result ≡ 1 }
+    ensures fault { IsReasonTold F.takes F.failures (λ fault. fault ≡ Fault.Delays delays)
+        faults.old faults.new }
+{
+    write_delays_reason(rt, alloc, faults, delays);
+    fail(rt, alloc, faults, Fault::Delays(delays))
 }
 
 /// Reports why the file of a list of keys cannot be read, and then the fault. Returns its status.

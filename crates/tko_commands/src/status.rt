@@ -9,7 +9,7 @@ use crate::Fault;
 use crate::checking::check;
 use crate::dry::dry;
 use crate::loading::{loaded_check, loaded_dry};
-use crate::refusing::{fail, refuse_against, refuse_config, refuse_keys};
+use crate::refusing::{fail, refuse_against, refuse_config, refuse_keys, refuse_settings};
 use crate::replay::replay;
 use std::alloc::Global;
 use std::fs::Files;
@@ -140,7 +140,8 @@ pub fn status_of<R: IoRuntime, F: Outlet>(
 }
 
 /// The status of a command over this text of a configuration, which wrote nothing to `faults`. Its
-/// fault is reported, and before it why the text is no configuration, or a file cannot be read.
+/// fault is reported, and before it why the text is no configuration, which option is outside its
+/// range, or why a file cannot be read.
 fn status_over<R: IoRuntime, F: Outlet>(
     rt: &R,
     alloc: Global,
@@ -156,6 +157,7 @@ fn status_over<R: IoRuntime, F: Outlet>(
 {
     match done {
         Err(Fault::Config(cause)) => refuse_config(rt, alloc, faults, json, cause),
+        Err(Fault::Settings(outside)) => refuse_settings(rt, alloc, faults, outside),
         Err(Fault::KeysFile(unread)) => refuse_keys(rt, alloc, faults, unread),
         done => status_of(rt, alloc, faults, done),
     }

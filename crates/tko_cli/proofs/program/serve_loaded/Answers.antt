@@ -26,6 +26,30 @@ returns-in-Err-Config-clause-fault g c =
     (of_err (λ it. IsExplained it → c.serve.new.faults ≡ c.args.faults.now) c.serve.result cause is c.serve.ensures.refused tt)
     c.refuse_config.ensures.fault
 
+pub returns-in-Err-Settings-clause-fault : goal.returns-in-Err-Settings-clause-fault
+returns-in-Err-Settings-clause-fault g c =
+    let cause = fault.Settings c.in-Err-Settings.outside in
+    let fails = ServeFails g.O.Outlet.takes g.O.Outlet.failures c.args.options.now c.args.output.now c.serve.new.output in
+    let is : c.serve.result ≡ Err cause = search rules in
+    λ one. told_why g.O.Outlet.takes g.O.Outlet.failures g.F.Outlet
+    (HasServerNotes g.F.Outlet.takes g.F.Outlet.failures (string_bytes c.args.options.now.config)) fails cause
+    c.args.output.now c.serve.new.output c.args.faults.now c.serve.new.faults c.refuse_settings.new.faults
+    (of_err fails c.serve.result cause is c.serve.ensures.err)
+    (of_err (λ it. IsExplained it → c.serve.new.faults ≡ c.args.faults.now) c.serve.result cause is c.serve.ensures.refused tt)
+    c.refuse_settings.ensures.fault
+
+pub returns-in-Err-Delays-clause-fault : goal.returns-in-Err-Delays-clause-fault
+returns-in-Err-Delays-clause-fault g c =
+    let cause = fault.Delays c.in-Err-Delays.delays in
+    let fails = ServeFails g.O.Outlet.takes g.O.Outlet.failures c.args.options.now c.args.output.now c.serve.new.output in
+    let is : c.serve.result ≡ Err cause = search rules in
+    λ one. told_why g.O.Outlet.takes g.O.Outlet.failures g.F.Outlet
+    (HasServerNotes g.F.Outlet.takes g.F.Outlet.failures (string_bytes c.args.options.now.config)) fails cause
+    c.args.output.now c.serve.new.output c.args.faults.now c.serve.new.faults c.refuse_delays.new.faults
+    (of_err fails c.serve.result cause is c.serve.ensures.err)
+    (of_err (λ it. IsExplained it → c.serve.new.faults ≡ c.args.faults.now) c.serve.result cause is c.serve.ensures.refused tt)
+    c.refuse_delays.ensures.fault
+
 pub returns-in-Err-Listen-clause-fault : goal.returns-in-Err-Listen-clause-fault
 returns-in-Err-Listen-clause-fault g c =
     let cause = fault.Listen c.in-Err-Listen.cause in

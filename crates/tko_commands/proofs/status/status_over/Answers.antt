@@ -11,6 +11,14 @@ returns-in-Err-Config-clause-fault g c = λ is.
     (λ it same. err_as c.args.done cause it (search rules) same)
     c.refuse_config.ensures.fault
 
+pub returns-in-Err-Settings-clause-fault : goal.returns-in-Err-Settings-clause-fault
+returns-in-Err-Settings-clause-fault g c = λ is.
+    let cause = fault.Settings c.in-Err-Settings.outside in
+    told_as g.F.Outlet.takes g.F.Outlet.failures (λ it. it ≡ cause) (λ it. c.args.done ≡ Err it)
+    c.args.faults.now c.refuse_settings.new.faults
+    (λ it same. err_as c.args.done cause it (search rules) same)
+    c.refuse_settings.ensures.fault
+
 pub returns-in-Err-KeysFile-clause-fault : goal.returns-in-Err-KeysFile-clause-fault
 returns-in-Err-KeysFile-clause-fault g c = λ is.
     let cause = fault.KeysFile c.in-Err-KeysFile.unread in

@@ -1,0 +1,9 @@
+use Rattle.tko_commands.specs.OutsideRanges.{IsDelaysReason}
+use Rattle.tko_commands.proofs.ReasonLemmas.{has_line}
+use Rattle.tko_commands.proofs.reasons.write_delays_reason.Goals as goal
+
+pub returns-in-Ok : goal.returns-in-Ok
+returns-in-Ok g c =
+    has_line g.F.Outlet.takes g.F.Outlet.failures (IsDelaysReason c.args.delays) c.args.faults.now
+    c.write_text.new.outlet c.in-Ok.line.items c.write_text.result c.in-Ok.ensures
+    (rw c.deref.ensures.value at c.write_text.ensures.ok) c.write_text.ensures.err
