@@ -334,10 +334,14 @@ class Metrics(ServerTest):
 
     def test_an_address_that_cannot_be_had(self):
         taken = self.memcached()
-        for address in (f"{HOST}:{taken.port}", "nowhere", f"{HOST}:", "203.0.113.1:80", ""):
+        none = "no address <host>:<port>"
+        for address, why in (
+                (f"{HOST}:{taken.port}", "Address already in use (os error 98)"), ("nowhere", none), (f"{HOST}:", none),
+                ("203.0.113.1:80", "Cannot assign requested address (os error 99)"), ("", none)):
             words = serve_words(free_port(), configuration(only=[taken]), {"metrics": address})
             done = subprocess.run(words, stdin=subprocess.DEVNULL, capture_output=True, timeout=20, check=False)
-            self.assertEqual((done.returncode, done.stdout, done.stderr), (1, b"", b"fault: metrics\n"), address)
+            lines = f"metrics: {address}: {why}\nfault: metrics\n".encode()
+            self.assertEqual((done.returncode, done.stdout, done.stderr), (1, b"", lines), address)
 
     @unittest.skipUnless(text_string_to_metric_families, "python3-prometheus-client is not installed")
     def test_prometheus_own_parser_reads_the_same(self):

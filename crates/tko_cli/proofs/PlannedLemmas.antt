@@ -28,5 +28,5 @@ no_settings options config (fault.Line number) means none = absurd none
 no_settings options config fault.Check means none = absurd none
 no_settings options config (fault.Delays delays) means none = absurd none
 no_settings options config (fault.Listen cause) means none = absurd none
-no_settings options config fault.Metrics means none = absurd none
+no_settings options config (fault.Metrics cause) means none = absurd none
 no_settings options config fault.Accept means none = absurd none

@@ -95,13 +95,13 @@ totals_fail takes failures from middle to (fault.Line number) ready calm is = ab
 totals_fail takes failures from middle to fault.Check ready calm is = absurd is
 totals_fail takes failures from middle to (fault.Delays delays) ready calm is = absurd is
 totals_fail takes failures from middle to (fault.Listen cause) ready calm is = absurd is
-totals_fail takes failures from middle to fault.Metrics ready calm is = absurd is
+totals_fail takes failures from middle to (fault.Metrics cause) ready calm is = absurd is
 totals_fail takes failures from middle to fault.Accept ready calm is = absurd is
 
 -- where there can be no metrics, nothing can run
 pub no_metrics : (options : ServeOptions) (reason : Fault) → HasPlan options → HasNoMetrics options reason
     → IsUnprepared options reason
-no_metrics options fault.Metrics plan none = (plan, none)
+no_metrics options (fault.Metrics cause) plan none = (plan, none)
 no_metrics options fault.Memory plan none = tt
 no_metrics options fault.Read plan none = absurd none
 no_metrics options fault.Write plan none = absurd none
@@ -123,7 +123,7 @@ pub no_listener : (options : ServeOptions) (reason : Fault) → HasPlan options 
     → IsUnprepared options reason
 no_listener options (fault.Listen cause) plan none = inr (plan, none)
 no_listener options fault.Memory plan none = tt
-no_listener options fault.Metrics plan none = absurd none
+no_listener options (fault.Metrics cause) plan none = absurd none
 no_listener options fault.Read plan none = absurd none
 no_listener options fault.Write plan none = absurd none
 no_listener options fault.LineTooLong plan none = absurd none
@@ -142,7 +142,7 @@ no_listener options fault.Accept plan none = absurd none
 pub unprepared_fails : {O : Type 0} (takes : O → List ℕ → O → Type 0) (failures : O → ℕ) (options : ServeOptions)
     (from : O) (reason : Fault) → IsUnprepared options reason → ServeFails takes failures options from from reason
 unprepared_fails takes failures options from (fault.Listen cause) is = (is, refl)
-unprepared_fails takes failures options from fault.Metrics is = (is.0, is.1, refl)
+unprepared_fails takes failures options from (fault.Metrics cause) is = (is.0, is.1, refl)
 unprepared_fails takes failures options from fault.Memory is = inl refl
 unprepared_fails takes failures options from fault.Write is = absurd is
 unprepared_fails takes failures options from fault.Accept is = absurd is
@@ -178,7 +178,7 @@ prepared_fails takes failures options from to (fault.Line number) plan is = absu
 prepared_fails takes failures options from to fault.Check plan is = absurd is
 prepared_fails takes failures options from to (fault.Delays delays) plan is = absurd is
 prepared_fails takes failures options from to (fault.Listen cause) plan is = absurd is
-prepared_fails takes failures options from to fault.Metrics plan is = absurd is
+prepared_fails takes failures options from to (fault.Metrics cause) plan is = absurd is
 
 -- how such a server has failed
 pub has_failed : {O : Type 0} (takes : O → List ℕ → O → Type 0) (failures : O → ℕ) (from to : O) (reason : Fault)
@@ -199,7 +199,7 @@ has_failed takes failures from to (fault.Line number) is = absurd is
 has_failed takes failures from to fault.Check is = absurd is
 has_failed takes failures from to (fault.Delays delays) is = absurd is
 has_failed takes failures from to (fault.Listen cause) is = absurd is
-has_failed takes failures from to fault.Metrics is = absurd is
+has_failed takes failures from to (fault.Metrics cause) is = absurd is
 
 -- and no line says why there is its fault
 pub never_explained : {O : Type 0} (takes : O → List ℕ → O → Type 0) (failures : O → ℕ) (from to : O) (reason : Fault)
@@ -216,7 +216,7 @@ never_explained takes failures from to (fault.Line number) is config = absurd co
 never_explained takes failures from to fault.Check is config = absurd config
 never_explained takes failures from to (fault.Delays delays) is config = absurd is
 never_explained takes failures from to (fault.Listen cause) is config = absurd is
-never_explained takes failures from to fault.Metrics is config = absurd config
+never_explained takes failures from to (fault.Metrics cause) is config = absurd is
 never_explained takes failures from to fault.Accept is config = absurd config
 never_explained takes failures from to fault.Write is config = absurd config
 never_explained takes failures from to fault.Memory is config = absurd config

@@ -1,5 +1,5 @@
 -- What `serve` writes, and why it fails.
-use Rattle.std.specs.Prelude.{◌≡◌, ◌<◌, ◌⊎◌, ℕ, true, IfSome, List, Option, bytes_eq, codes, is_some, string_bytes}
+use Rattle.std.specs.Prelude.{◌≡◌, ◌<◌, ◌⊎◌, ℕ, true, false, IfSome, IsSomeAnd, List, Option, bytes_eq, codes, is_some, option_map, string_bytes}
 use Rattle.tko_cli.specs.Announcements.{ready_text}
 use Rattle.tko_cli.specs.Planned.{IsServePlan, IsServerOf, NoPlan}
 use Rattle.tko_cli.specs.Totals.{totals_text}
@@ -11,6 +11,7 @@ use Rattle.tko_commands.specs.declared.listen_fault.ListenFault.TheVariants as l
 use Rattle.tko_cli.specs.declared.planned.ServePlan.{ServePlan}
 use Rattle.tko_cli.specs.declared.prepared.Prepared.{Prepared}
 use Rattle.tko_model.specs.Ranges.{IsWithinRanges}
+use Rattle.tko_pools.specs.Addresses.{is_address}
 use Rattle.tko_server.specs.Beside.{IsLogOf, IsMeterOf}
 use Rattle.tko_server.specs.Closing.{HasServerEnded}
 use Rattle.tko_server.specs.Runs.{tracker_settings}
@@ -89,6 +90,7 @@ IsExplained (fault.Config cause) = Unit {0}
 IsExplained (fault.Settings outside) = Unit {0}
 IsExplained (fault.Delays delays) = Unit {0}
 IsExplained (fault.Listen cause) = Unit {0}
+IsExplained (fault.Metrics cause) = Unit {0}
 IsExplained other = ⊥
 
 -- the system refuses an address
@@ -108,9 +110,15 @@ pub record IsOnlyReady {O : Type 0} (takes : O → List ℕ → O → Type 0) (o
   pub plan : HasPlan options
   pub ready : takes from ready_text to
 
--- the options ask for metrics, for which nothing can listen, or memory ran out
+-- nothing can listen at this address: it is none, or the system refuses one
+abbrev pub IsNoListenerAt : ListenFault → List ℕ → Type 0
+IsNoListenerAt listen_fault.NoAddress address = is_address address ≡ false
+IsNoListenerAt (listen_fault.System words) address = is_address address ≡ true
+
+-- the options ask for metrics at an address where nothing can listen, or memory ran out
 abbrev pub HasNoMetrics : ServeOptions → Fault → Type 0
-HasNoMetrics options fault.Metrics = is_some options.metrics ≡ true
+HasNoMetrics options (fault.Metrics cause) =
+    IsSomeAnd (option_map string_bytes options.metrics) (IsNoListenerAt cause)
 HasNoMetrics options fault.Memory = Unit {0}
 HasNoMetrics options _ = ⊥
 
@@ -119,7 +127,8 @@ HasNoMetrics options _ = ⊥
 abbrev pub IsUnprepared : ServeOptions → Fault → Type 0
 IsUnprepared options (fault.Listen cause) =
     NoPlan options (fault.Listen cause) ⊎ (HasPlan options × IsAddressRefused cause)
-IsUnprepared options fault.Metrics = HasPlan options × HasNoMetrics options fault.Metrics
+IsUnprepared options (fault.Metrics cause) =
+    HasPlan options × HasNoMetrics options (fault.Metrics cause)
 IsUnprepared options fault.Write = ⊥
 IsUnprepared options fault.Accept = ⊥
 IsUnprepared options fault.Memory = Unit {0}
@@ -147,8 +156,8 @@ module _ {O : Type 0} (takes : O → List ℕ → O → Type 0) (failures : O �
   ServeFails options from to (fault.Listen cause) =
       (NoPlan options (fault.Listen cause) ⊎ (HasPlan options × IsAddressRefused cause))
       × (to ≡ from)
-  ServeFails options from to fault.Metrics =
-      HasPlan options × HasNoMetrics options fault.Metrics × (to ≡ from)
+  ServeFails options from to (fault.Metrics cause) =
+      HasPlan options × HasNoMetrics options (fault.Metrics cause) × (to ≡ from)
   ServeFails options from to fault.Write = failures from < failures to
   ServeFails options from to fault.Accept = IsOnlyReady takes options from to
   ServeFails options from to fault.Memory = (to ≡ from) ⊎ IsOnlyReady takes options from to

@@ -59,12 +59,21 @@ fn listener_of<R: IoRuntime<Listener = TcpListener>>(
 ) -> Result<TcpListener, Fault>
     ensures { IfErr result HasNoListener }
 {
-    match TcpListener::bind(rt, address) {
+    match bound(rt, alloc, address)? {
         Ok(listener) => Ok(listener),
-        Err(error) => {
-            let words = format!(in alloc; "{error}")?;
-            Err(Fault::Listen(ListenFault::System(words)))
-        }
+        Err(words) => Err(Fault::Listen(ListenFault::System(words))),
+    }
+}
+
+/// A listener at this address, or what the system says against it; or memory ran out for that.
+fn bound<R: IoRuntime<Listener = TcpListener>>(
+    rt: &R,
+    alloc: Global,
+    address: &str,
+) -> Result<Result<TcpListener, String>, AllocError> {
+    match TcpListener::bind(rt, address) {
+        Ok(listener) => Ok(Ok(listener)),
+        Err(error) => Ok(Err(format!(in alloc; "{error}")?)),
     }
 }
 
@@ -102,18 +111,24 @@ fn metering_of<R: IoRuntime<Listener = TcpListener> + Files<File = File>>(
     let Some(address) = &options.metrics else {
         return Ok(None);
     };
-    let Some(listener) = listener_at(rt, address.as_str()) else {
-        return Err(Fault::Metrics);
-    };
-    let process = Process::open(rt, server.open_files);
-    let metering = Metering::start(alloc, listener, server, process)?;
-    Ok(Some(metering))
+    if !is_address(address.as_bytes()) {
+        return Err(Fault::Metrics(ListenFault::NoAddress));
+    }
+    match bound(rt, alloc, address.as_str())? {
+        Ok(listener) => Ok(Some(metering_at(rt, alloc, listener, server)?)),
+        Err(words) => Err(Fault::Metrics(ListenFault::System(words))),
+    }
 }
 
-/// A listener at this address, where it is one and something can listen there.
-fn listener_at<R: IoRuntime<Listener = TcpListener>>(rt: &R, address: &str) -> Option<TcpListener> {
-    if !is_address(address.as_bytes()) {
-        return None;
-    }
-    TcpListener::bind(rt, address).ok()
+/// The metrics of this server, which this listener answers for.
+fn metering_at<R: IoRuntime<Listener = TcpListener> + Files<File = File>>(
+    rt: &R,
+    alloc: Global,
+    listener: TcpListener,
+    server: &tko_server::Options,
+) -> Result<Metering, AllocError>
+    ensures { IfOk result (IsMeterOf server.now) }
+{
+    let process = Process::open(rt, server.open_files);
+    Metering::start(alloc, listener, server, process)
 }

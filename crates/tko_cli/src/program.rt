@@ -11,8 +11,8 @@ use std::fs::{File, Files};
 use std::net::TcpListener;
 use std::thread::Threads;
 use tko_commands::{
-    DONE, Fault, fail, loaded_server, refuse_config, refuse_delays, refuse_listen, refuse_settings,
-    run_check, run_dry, run_replay, status_of, write_text,
+    DONE, Fault, fail, loaded_server, refuse_config, refuse_delays, refuse_listen, refuse_metrics,
+    refuse_settings, run_check, run_dry, run_replay, status_of, write_text,
 };
 use tko_io::{Inlet, IoRuntime, Outlet};
 use tko_options::{Asked, Refusal, ServeOptions};
@@ -117,7 +117,18 @@ fn serve_loaded<
         Err(Fault::Listen(cause)) => {
             refuse_listen(rt, alloc, faults, options.listen.as_str(), cause)
         }
+        Err(Fault::Metrics(cause)) => {
+            refuse_metrics(rt, alloc, faults, metrics_of(options), cause)
+        }
         Err(fault) => fail(rt, alloc, faults, fault),
+    }
+}
+
+/// The address of the metrics, and the empty text where none is given.
+fn metrics_of(options: &ServeOptions) -> &str {
+    match &options.metrics {
+        Some(address) => address.as_str(),
+        None => "",
     }
 }
 

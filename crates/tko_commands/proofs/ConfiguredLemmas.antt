@@ -74,5 +74,5 @@ unset options (fault.Line number) alone none = absurd none
 unset options fault.Check alone none = absurd none
 unset options (fault.Delays delays) alone none = absurd none
 unset options (fault.Listen cause) alone none = absurd none
-unset options fault.Metrics alone none = absurd none
+unset options (fault.Metrics cause) alone none = absurd none
 unset options fault.Accept alone none = absurd none

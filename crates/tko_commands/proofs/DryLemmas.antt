@@ -1,5 +1,5 @@
 -- What a dry run begins with and does.
-use Rattle.std.proofs.Common.{◌≡◌, ◌<◌, ℕ, List, length, Some, true, Option, refl, subst, sym}
+use Rattle.std.proofs.Common.{◌≡◌, ◌<◌, ℕ, List, length, true, Option, refl, subst, sym}
 use Rattle.std.proofs.lemmas.List.{length-replicate}
 use Rattle.std.proofs.lemmas.List.FromFn.{length-map-range_with_len}
 use Rattle.tko_model.specs.Tracker.{Tracker, opened}
@@ -181,7 +181,7 @@ module _ {I O : Type 0} (inlet : InletGhosts I) (outlet : OutletGhosts O) where
   not_configured options here scripts fault.Check asked none = absurd none
   not_configured options here scripts (fault.Delays delays) asked none = absurd none
   not_configured options here scripts (fault.Listen cause) asked none = absurd none
-  not_configured options here scripts fault.Metrics asked none = absurd none
+  not_configured options here scripts (fault.Metrics cause) asked none = absurd none
   not_configured options here scripts fault.Accept asked none = absurd none
 
   -- there are no settings, so nothing was read or written
@@ -211,7 +211,7 @@ module _ {I O : Type 0} (inlet : InletGhosts I) (outlet : OutletGhosts O) where
   not_set options here scripts config fault.Check asked configured none = absurd none
   not_set options here scripts config (fault.Delays delays) asked configured none = absurd none
   not_set options here scripts config (fault.Listen cause) asked configured none = absurd none
-  not_set options here scripts config fault.Metrics asked configured none = absurd none
+  not_set options here scripts config (fault.Metrics cause) asked configured none = absurd none
   not_set options here scripts config fault.Accept asked configured none = absurd none
 
   -- the tracker could not be opened, so nothing was read or written; its settings are in their ranges

@@ -4,7 +4,7 @@ use Rattle.tko_explain.specs.Reasons.{IsReasonOf}
 use Rattle.tko_pools.specs.declared.fault.ConfigFault.{ConfigFault}
 use Rattle.tko_commands.specs.FaultLines.{IsFaultWritten, IsReasonTold}
 use Rattle.tko_commands.specs.OutsideRanges.{IsRangeReason, range_line}
-use Rattle.tko_commands.specs.Reasons.{HasLineOf, Written, LeftOut, Failed, IsFileReason, IsListenReason, IsReasonFor}
+use Rattle.tko_commands.specs.Reasons.{HasLineOf, Written, LeftOut, Failed, IsFileReason, IsListenReason, IsMetricsReason, IsReasonFor}
 use Rattle.tko_commands.specs.declared.fault.Fault.{Fault}
 use Rattle.tko_commands.specs.declared.listen_fault.ListenFault.{ListenFault}
 use Rattle.tko_commands.specs.declared.outside_range.OptionRange.{OptionRange}
@@ -62,6 +62,14 @@ pub listen_reason : {O : Type 0} (takes : O → List ℕ → O → Type 0) (fail
     → HasLineOf takes failures (IsReasonFor (fault.Listen cause)) old new
 listen_reason takes failures cause address old new it =
     line_as takes failures (IsListenReason cause address) (IsReasonFor (fault.Listen cause)) old new
+    (λ line good. (address, good)) it
+
+-- the same of the address of the metrics
+pub metrics_reason : {O : Type 0} (takes : O → List ℕ → O → Type 0) (failures : O → ℕ) (cause : ListenFault)
+    (address : List ℕ) (old new : O) → HasLineOf takes failures (IsMetricsReason cause address) old new
+    → HasLineOf takes failures (IsReasonFor (fault.Metrics cause)) old new
+metrics_reason takes failures cause address old new it =
+    line_as takes failures (IsMetricsReason cause address) (IsReasonFor (fault.Metrics cause)) old new
     (λ line good. (address, good)) it
 
 -- the reason and then the fault

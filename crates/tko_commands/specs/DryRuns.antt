@@ -213,5 +213,5 @@ module _ {I O : Type 0} (inlet : InletGhosts I) (outlet : OutletGhosts O)
   DryFails old new (fault.KeysFile unread) = ⊥
   DryFails old new (fault.Delays delays) = ⊥
   DryFails old new (fault.Listen cause) = ⊥
-  DryFails old new fault.Metrics = ⊥
+  DryFails old new (fault.Metrics cause) = ⊥
   DryFails old new fault.Accept = ⊥

@@ -69,7 +69,7 @@ fault_line (fault.Line number) = codes "fault: schedule line " ++ decimal number
 fault_line fault.Check = codes "fault: check"
 fault_line (fault.Delays delays) = codes "fault: delays"
 fault_line (fault.Listen cause) = codes "fault: listen"
-fault_line fault.Metrics = codes "fault: metrics"
+fault_line (fault.Metrics cause) = codes "fault: metrics"
 fault_line fault.Accept = codes "fault: accept"
 
 -- of the list of outcomes

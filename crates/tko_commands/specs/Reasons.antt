@@ -28,6 +28,11 @@ abbrev pub IsListenReason : ListenFault → List ℕ → List ℕ → Type 0
 IsListenReason cause address line =
     line ≡ codes "listen: " ++ address ++ codes ": " ++ listen_words cause ++ codes "\n"
 
+-- the same of the address of the metrics
+abbrev pub IsMetricsReason : ListenFault → List ℕ → List ℕ → Type 0
+IsMetricsReason cause address line =
+    line ≡ codes "metrics: " ++ address ++ codes ": " ++ listen_words cause ++ codes "\n"
+
 -- a line that says why a command ends with a fault: of which text the configuration is to be, which
 -- option is outside which range, how the delays of probes have to be, which file cannot be read, or
 -- why nothing can listen at which address. No other fault has one.
@@ -39,6 +44,7 @@ IsReasonFor (fault.KeysFile unread) line = IsKeysReason unread line
 IsReasonFor (fault.Settings outside) line = IsRangeReason outside line
 IsReasonFor (fault.Delays delays) line = IsDelaysReason delays line
 IsReasonFor (fault.Listen cause) line = (address : List ℕ) × IsListenReason cause address line
+IsReasonFor (fault.Metrics cause) line = (address : List ℕ) × IsMetricsReason cause address line
 IsReasonFor other line = ⊥
 
 -- such a line was written, or nothing, or the outlet failed

@@ -66,5 +66,5 @@ module _ {I O : Type 0} (gives : I → List ℕ → I → Type 0) (is_ended : I 
   ReplayFails old new from to (fault.KeysFile unread) = ⊥
   ReplayFails old new from to (fault.Delays delays) = ⊥
   ReplayFails old new from to (fault.Listen cause) = ⊥
-  ReplayFails old new from to fault.Metrics = ⊥
+  ReplayFails old new from to (fault.Metrics cause) = ⊥
   ReplayFails old new from to fault.Accept = ⊥

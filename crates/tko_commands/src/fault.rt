@@ -35,8 +35,8 @@ pub enum Fault {
     Delays(RefusedDelays),
     /// Why nothing can listen at the address that clients are to connect to.
     Listen(ListenFault),
-    /// The address of the metrics is no address, or nothing can listen there.
-    Metrics,
+    /// Why nothing can listen at the address of the metrics.
+    Metrics(ListenFault),
     /// The listener failed.
     Accept,
 }
@@ -72,7 +72,7 @@ impl fmt::Display for Fault {
             Fault::Check => f.write_str("fault: check"),
             Fault::Delays(_) => f.write_str("fault: delays"),
             Fault::Listen(_) => f.write_str("fault: listen"),
-            Fault::Metrics => f.write_str("fault: metrics"),
+            Fault::Metrics(_) => f.write_str("fault: metrics"),
             Fault::Accept => f.write_str("fault: accept"),
         }
     }

@@ -1,8 +1,8 @@
 //! The commands that need no server, and what all commands share: faults, files and texts.
 //!
 //! - `Fault`: why a command ended with status 1; it prints as the line on standard error. `fail`
-//!   reports it, and `refuse_config`, `refuse_settings`, `refuse_delays` and `refuse_listen` also
-//!   why it came.
+//!   reports it, and `refuse_config`, `refuse_settings`, `refuse_delays`, `refuse_listen` and
+//!   `refuse_metrics` also why it came.
 //! - `run_dry`, `run_replay`, `run_check`: each runs a command and returns its status.
 //! - `loaded_server`, `settings_over`, `write_text`: what `serve` shares with them.
 #![tactic(auto)]
@@ -34,7 +34,9 @@ pub use listen_fault::ListenFault;
 pub use loading::loaded_server;
 pub use outside_range::{OptionRange, OutsideRange};
 pub use refused_delays::RefusedDelays;
-pub use refusing::{fail, refuse_config, refuse_delays, refuse_listen, refuse_settings};
+pub use refusing::{
+    fail, refuse_config, refuse_delays, refuse_listen, refuse_metrics, refuse_settings,
+};
 pub use status::{DONE, run_check, run_dry, run_replay, status_of};
 pub use unread_keys::UnreadKeys;
 pub use writing::{WriteFault, write_text};

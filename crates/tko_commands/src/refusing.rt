@@ -6,7 +6,7 @@ ghost use Rattle.tko_commands.specs.FaultLines.{HasFaultLine, IsFaultWritten, Is
 use crate::key_lists::against_of;
 use crate::reasons::{
     write_config_reason, write_delays_reason, write_keys_reason, write_listen_reason,
-    write_range_reason,
+    write_metrics_reason, write_range_reason,
 };
 use crate::writing::{WriteFault, write_text};
 use crate::{Fault, ListenFault, OutsideRange, RefusedDelays, UnreadKeys};
@@ -111,6 +111,23 @@ pub fn refuse_listen<R: IoRuntime, F: Outlet>(
 {
     write_listen_reason(rt, alloc, faults, address, &cause);
     fail(rt, alloc, faults, Fault::Listen(cause))
+}
+
+/// Reports why nothing can listen at the address of the metrics, and then the fault. Returns its
+/// status.
+pub fn refuse_metrics<R: IoRuntime, F: Outlet>(
+    rt: &R,
+    alloc: Global,
+    faults: &mut F,
+    address: &str,
+    cause: ListenFault,
+) -> u8
+    ensures status { result ≡ 1 }
+    ensures fault { IsReasonTold F.takes F.failures (λ fault. fault ≡ Fault.Metrics cause)
+        faults.old faults.new }
+{
+    write_metrics_reason(rt, alloc, faults, address, &cause);
+    fail(rt, alloc, faults, Fault::Metrics(cause))
 }
 
 /// Reports a fault and returns its status. A failure to report it is not reported.

@@ -61,3 +61,15 @@ returns-in-Err-Listen-clause-fault g c =
     (of_err fails c.serve.result cause is c.serve.ensures.err)
     (of_err (λ it. IsExplained it → c.serve.new.faults ≡ c.args.faults.now) c.serve.result cause is c.serve.ensures.refused tt)
     c.refuse_listen.ensures.fault
+
+pub returns-in-Err-Metrics-clause-fault : goal.returns-in-Err-Metrics-clause-fault
+returns-in-Err-Metrics-clause-fault g c =
+    let cause = fault.Metrics c.in-Err-Metrics.cause in
+    let fails = ServeFails g.O.Outlet.takes g.O.Outlet.failures c.args.options.now c.args.output.now c.serve.new.output in
+    let is : c.serve.result ≡ Err cause = search rules in
+    λ one. told_why g.O.Outlet.takes g.O.Outlet.failures g.F.Outlet
+    (HasServerNotes g.F.Outlet.takes g.F.Outlet.failures (string_bytes c.args.options.now.config)) fails cause
+    c.args.output.now c.serve.new.output c.args.faults.now c.serve.new.faults c.refuse_metrics.new.faults
+    (of_err fails c.serve.result cause is c.serve.ensures.err)
+    (of_err (λ it. IsExplained it → c.serve.new.faults ≡ c.args.faults.now) c.serve.result cause is c.serve.ensures.refused tt)
+    c.refuse_metrics.ensures.fault
