@@ -11,9 +11,11 @@ use Rattle.tko_server.specs.declared.running.Options.{Options as Server}
 use Rattle.tko_commands.proofs.GroupedLemmas.{no_fault}
 use Rattle.tko_commands.specs.declared.fault.Fault.{Fault}
 use Rattle.tko_commands.specs.declared.fault.Fault.TheVariants as fault
-use Rattle.tko_cli.specs.Planned.{IsServePlan, IsServerOf}
+use Rattle.tko_commands.specs.declared.listen_fault.ListenFault.{ListenFault}
+use Rattle.tko_commands.specs.declared.listen_fault.ListenFault.TheVariants as listen_fault
+use Rattle.tko_cli.specs.Planned.{IsServePlan, IsServerOf, NoPlan}
 use Rattle.tko_cli.specs.Announcements.{HasNotPrinted, HasPrinted, ready_text}
-use Rattle.tko_cli.specs.Serving.{HasNoListener, HasNoMetrics, HasPlan, HasServeFailed, IsExplained, IsNamed, IsRunnable, IsUnprepared, NotReady, NotWritten, PreparedFails, Ready, ServeFails, TotalsFail, fault_of_server}
+use Rattle.tko_cli.specs.Serving.{HasNoListener, HasNoMetrics, HasNotOpened, HasPlan, HasServeFailed, IsAddressRefused, IsNamed, IsNoAddress, IsOfOptions, IsRunnable, NotReady, NotWritten, PreparedFails, Ready, RunFails, ServeFails, TotalsFail, fault_of_server}
 use Rattle.tko_cli.specs.declared.announcement.Announcement.{Announcement}
 use Rattle.tko_cli.specs.declared.planned.ServePlan.{ServePlan}
 use Rattle.tko_cli.specs.declared.prepared.Prepared.{Prepared}
@@ -98,125 +100,169 @@ totals_fail takes failures from middle to (fault.Listen cause) ready calm is = a
 totals_fail takes failures from middle to (fault.Metrics cause) ready calm is = absurd is
 totals_fail takes failures from middle to fault.Accept ready calm is = absurd is
 
--- where there can be no metrics, nothing can run
-pub no_metrics : (options : ServeOptions) (reason : Fault) → HasPlan options → HasNoMetrics options reason
-    → IsUnprepared options reason
-no_metrics options (fault.Metrics cause) plan none = (plan, none)
-no_metrics options fault.Memory plan none = tt
-no_metrics options fault.Read plan none = absurd none
-no_metrics options fault.Write plan none = absurd none
-no_metrics options fault.LineTooLong plan none = absurd none
-no_metrics options (fault.Settings outside) plan none = absurd none
-no_metrics options (fault.Config cause) plan none = absurd none
-no_metrics options fault.ConfigFile plan none = absurd none
-no_metrics options (fault.Against cause) plan none = absurd none
-no_metrics options (fault.KeysFile unread) plan none = absurd none
-no_metrics options (fault.Outcomes number) plan none = absurd none
-no_metrics options (fault.Line number) plan none = absurd none
-no_metrics options fault.Check plan none = absurd none
-no_metrics options (fault.Delays delays) plan none = absurd none
-no_metrics options (fault.Listen cause) plan none = absurd none
-no_metrics options fault.Accept plan none = absurd none
+-- where the address of the clients is refused, nothing was opened
+pub no_listener : (options : ServeOptions) (reason : Fault) → HasNoListener reason → HasNotOpened options reason
+no_listener options (fault.Listen cause) none = none
+no_listener options fault.Memory none = tt
+no_listener options fault.Write none = absurd none
+no_listener options fault.Accept none = absurd none
+no_listener options (fault.Metrics cause) none = absurd none
+no_listener options fault.Read none = absurd none
+no_listener options fault.LineTooLong none = absurd none
+no_listener options (fault.Settings outside) none = absurd none
+no_listener options (fault.Config cause) none = absurd none
+no_listener options fault.ConfigFile none = absurd none
+no_listener options (fault.Against cause) none = absurd none
+no_listener options (fault.KeysFile unread) none = absurd none
+no_listener options (fault.Outcomes number) none = absurd none
+no_listener options (fault.Line number) none = absurd none
+no_listener options fault.Check none = absurd none
+no_listener options (fault.Delays delays) none = absurd none
 
--- where nothing can listen, nothing can run
-pub no_listener : (options : ServeOptions) (reason : Fault) → HasPlan options → HasNoListener reason
-    → IsUnprepared options reason
-no_listener options (fault.Listen cause) plan none = inr (plan, none)
-no_listener options fault.Memory plan none = tt
-no_listener options (fault.Metrics cause) plan none = absurd none
-no_listener options fault.Read plan none = absurd none
-no_listener options fault.Write plan none = absurd none
-no_listener options fault.LineTooLong plan none = absurd none
-no_listener options (fault.Settings outside) plan none = absurd none
-no_listener options (fault.Config cause) plan none = absurd none
-no_listener options fault.ConfigFile plan none = absurd none
-no_listener options (fault.Against cause) plan none = absurd none
-no_listener options (fault.KeysFile unread) plan none = absurd none
-no_listener options (fault.Outcomes number) plan none = absurd none
-no_listener options (fault.Line number) plan none = absurd none
-no_listener options fault.Check plan none = absurd none
-no_listener options (fault.Delays delays) plan none = absurd none
-no_listener options fault.Accept plan none = absurd none
+-- and where that of the metrics is
+pub no_metrics : (options : ServeOptions) (reason : Fault) → HasNoMetrics options reason → HasNotOpened options reason
+no_metrics options (fault.Metrics cause) none = none
+no_metrics options fault.Memory none = tt
+no_metrics options fault.Write none = absurd none
+no_metrics options fault.Accept none = absurd none
+no_metrics options (fault.Listen cause) none = absurd none
+no_metrics options fault.Read none = absurd none
+no_metrics options fault.LineTooLong none = absurd none
+no_metrics options (fault.Settings outside) none = absurd none
+no_metrics options (fault.Config cause) none = absurd none
+no_metrics options fault.ConfigFile none = absurd none
+no_metrics options (fault.Against cause) none = absurd none
+no_metrics options (fault.KeysFile unread) none = absurd none
+no_metrics options (fault.Outcomes number) none = absurd none
+no_metrics options (fault.Line number) none = absurd none
+no_metrics options fault.Check none = absurd none
+no_metrics options (fault.Delays delays) none = absurd none
 
--- where nothing can run, nothing was written
-pub unprepared_fails : {O : Type 0} (takes : O → List ℕ → O → Type 0) (failures : O → ℕ) (options : ServeOptions)
-    (from : O) (reason : Fault) → IsUnprepared options reason → ServeFails takes failures options from from reason
-unprepared_fails takes failures options from (fault.Listen cause) is = (is, refl)
-unprepared_fails takes failures options from (fault.Metrics cause) is = (is.0, is.1, refl)
-unprepared_fails takes failures options from fault.Memory is = inl refl
-unprepared_fails takes failures options from fault.Write is = absurd is
-unprepared_fails takes failures options from fault.Accept is = absurd is
-unprepared_fails takes failures options from fault.Read is = (is, refl)
-unprepared_fails takes failures options from fault.LineTooLong is = (is, refl)
-unprepared_fails takes failures options from (fault.Settings outside) is = (is, refl)
-unprepared_fails takes failures options from (fault.Config cause) is = (is, refl)
-unprepared_fails takes failures options from fault.ConfigFile is = (is, refl)
-unprepared_fails takes failures options from (fault.Against cause) is = (is, refl)
-unprepared_fails takes failures options from (fault.KeysFile unread) is = (is, refl)
-unprepared_fails takes failures options from (fault.Outcomes number) is = (is, refl)
-unprepared_fails takes failures options from (fault.Line number) is = (is, refl)
-unprepared_fails takes failures options from fault.Check is = (is, refl)
-unprepared_fails takes failures options from (fault.Delays delays) is = (is, refl)
+-- where nothing was opened, nothing was written
+pub unopened_fails : {O : Type 0} (takes : O → List ℕ → O → Type 0) (failures : O → ℕ) (options : ServeOptions)
+    (from : O) (reason : Fault) → HasNotOpened options reason → RunFails takes failures options from from reason
+unopened_fails takes failures options from (fault.Listen cause) none = (none, refl)
+unopened_fails takes failures options from (fault.Metrics cause) none = (none, refl)
+unopened_fails takes failures options from fault.Memory none = inl refl
+unopened_fails takes failures options from fault.Write none = absurd none
+unopened_fails takes failures options from fault.Accept none = absurd none
+unopened_fails takes failures options from fault.Read none = absurd none
+unopened_fails takes failures options from fault.LineTooLong none = absurd none
+unopened_fails takes failures options from (fault.Settings outside) none = absurd none
+unopened_fails takes failures options from (fault.Config cause) none = absurd none
+unopened_fails takes failures options from fault.ConfigFile none = absurd none
+unopened_fails takes failures options from (fault.Against cause) none = absurd none
+unopened_fails takes failures options from (fault.KeysFile unread) none = absurd none
+unopened_fails takes failures options from (fault.Outcomes number) none = absurd none
+unopened_fails takes failures options from (fault.Line number) none = absurd none
+unopened_fails takes failures options from fault.Check none = absurd none
+unopened_fails takes failures options from (fault.Delays delays) none = absurd none
 
--- why a server that was ready to run fails
-pub prepared_fails : {O : Type 0} (takes : O → List ℕ → O → Type 0) (failures : O → ℕ) (options : ServeOptions)
-    (from to : O) (reason : Fault) → HasPlan options → PreparedFails takes failures from to reason
+-- a server that was ready to run fails as one that is named
+pub prepared_runs : {O : Type 0} (takes : O → List ℕ → O → Type 0) (failures : O → ℕ) (options : ServeOptions)
+    (from to : O) (reason : Fault) → PreparedFails takes failures from to reason
+    → RunFails takes failures options from to reason
+prepared_runs takes failures options from to (fault.Listen cause) is = absurd is
+prepared_runs takes failures options from to (fault.Metrics cause) is = absurd is
+prepared_runs takes failures options from to fault.Write is = is
+prepared_runs takes failures options from to fault.Accept is = is
+prepared_runs takes failures options from to fault.Memory is = is
+prepared_runs takes failures options from to fault.Read is = is
+prepared_runs takes failures options from to fault.LineTooLong is = is
+prepared_runs takes failures options from to (fault.Settings outside) is = is
+prepared_runs takes failures options from to (fault.Config cause) is = is
+prepared_runs takes failures options from to fault.ConfigFile is = is
+prepared_runs takes failures options from to (fault.Against cause) is = is
+prepared_runs takes failures options from to (fault.KeysFile unread) is = is
+prepared_runs takes failures options from to (fault.Outcomes number) is = is
+prepared_runs takes failures options from to (fault.Line number) is = is
+prepared_runs takes failures options from to fault.Check is = is
+prepared_runs takes failures options from to (fault.Delays delays) is = is
+
+-- where nothing is named, nothing was written
+pub unnamed_fails : {O : Type 0} (takes : O → List ℕ → O → Type 0) (failures : O → ℕ) (options : ServeOptions)
+    (from : O) (reason : Fault) → NoPlan options reason → ServeFails takes failures options from from reason
+unnamed_fails takes failures options from (fault.Listen cause) none = (inl none, refl)
+unnamed_fails takes failures options from (fault.Metrics cause) none = (inl none, refl)
+unnamed_fails takes failures options from fault.Memory none = inl refl
+unnamed_fails takes failures options from fault.Write none = absurd none
+unnamed_fails takes failures options from fault.Accept none = absurd none
+unnamed_fails takes failures options from fault.Read none = (none, refl)
+unnamed_fails takes failures options from fault.LineTooLong none = (none, refl)
+unnamed_fails takes failures options from (fault.Settings outside) none = (none, refl)
+unnamed_fails takes failures options from (fault.Config cause) none = (none, refl)
+unnamed_fails takes failures options from fault.ConfigFile none = (none, refl)
+unnamed_fails takes failures options from (fault.Against cause) none = (none, refl)
+unnamed_fails takes failures options from (fault.KeysFile unread) none = (none, refl)
+unnamed_fails takes failures options from (fault.Outcomes number) none = (none, refl)
+unnamed_fails takes failures options from (fault.Line number) none = (none, refl)
+unnamed_fails takes failures options from fault.Check none = (none, refl)
+unnamed_fails takes failures options from (fault.Delays delays) none = (none, refl)
+
+-- why a server that the options name fails
+pub named_fails : {O : Type 0} (takes : O → List ℕ → O → Type 0) (failures : O → ℕ) (options : ServeOptions)
+    (from to : O) (reason : Fault) → HasPlan options → RunFails takes failures options from to reason
     → ServeFails takes failures options from to reason
-prepared_fails takes failures options from to fault.Write plan is = is
-prepared_fails takes failures options from to fault.Accept plan is = record { plan = plan; ready = is }
-prepared_fails takes failures options from to fault.Memory plan (inl same) = inl same
-prepared_fails takes failures options from to fault.Memory plan (inr ready) = inr (record { plan = plan; ready = ready })
-prepared_fails takes failures options from to fault.Read plan is = absurd is
-prepared_fails takes failures options from to fault.LineTooLong plan is = absurd is
-prepared_fails takes failures options from to (fault.Settings outside) plan is = absurd is
-prepared_fails takes failures options from to (fault.Config cause) plan is = absurd is
-prepared_fails takes failures options from to fault.ConfigFile plan is = absurd is
-prepared_fails takes failures options from to (fault.Against cause) plan is = absurd is
-prepared_fails takes failures options from to (fault.KeysFile unread) plan is = absurd is
-prepared_fails takes failures options from to (fault.Outcomes number) plan is = absurd is
-prepared_fails takes failures options from to (fault.Line number) plan is = absurd is
-prepared_fails takes failures options from to fault.Check plan is = absurd is
-prepared_fails takes failures options from to (fault.Delays delays) plan is = absurd is
-prepared_fails takes failures options from to (fault.Listen cause) plan is = absurd is
-prepared_fails takes failures options from to (fault.Metrics cause) plan is = absurd is
+named_fails takes failures options from to (fault.Listen cause) plan is = (inr (plan, is.0), is.1)
+named_fails takes failures options from to (fault.Metrics cause) plan is = (inr (plan, is.0), is.1)
+named_fails takes failures options from to fault.Write plan is = is
+named_fails takes failures options from to fault.Accept plan is = record { plan = plan; ready = is }
+named_fails takes failures options from to fault.Memory plan (inl same) = inl same
+named_fails takes failures options from to fault.Memory plan (inr ready) = inr (record { plan = plan; ready = ready })
+named_fails takes failures options from to fault.Read plan is = absurd is
+named_fails takes failures options from to fault.LineTooLong plan is = absurd is
+named_fails takes failures options from to (fault.Settings outside) plan is = absurd is
+named_fails takes failures options from to (fault.Config cause) plan is = absurd is
+named_fails takes failures options from to fault.ConfigFile plan is = absurd is
+named_fails takes failures options from to (fault.Against cause) plan is = absurd is
+named_fails takes failures options from to (fault.KeysFile unread) plan is = absurd is
+named_fails takes failures options from to (fault.Outcomes number) plan is = absurd is
+named_fails takes failures options from to (fault.Line number) plan is = absurd is
+named_fails takes failures options from to fault.Check plan is = absurd is
+named_fails takes failures options from to (fault.Delays delays) plan is = absurd is
 
 -- how such a server has failed
-pub has_failed : {O : Type 0} (takes : O → List ℕ → O → Type 0) (failures : O → ℕ) (from to : O) (reason : Fault)
-    → PreparedFails takes failures from to reason → HasServeFailed takes failures from to
-has_failed takes failures from to fault.Write is = NotWritten is
-has_failed takes failures from to fault.Accept is = Ready is
-has_failed takes failures from to fault.Memory (inl same) = NotReady same
-has_failed takes failures from to fault.Memory (inr ready) = Ready ready
-has_failed takes failures from to fault.Read is = absurd is
-has_failed takes failures from to fault.LineTooLong is = absurd is
-has_failed takes failures from to (fault.Settings outside) is = absurd is
-has_failed takes failures from to (fault.Config cause) is = absurd is
-has_failed takes failures from to fault.ConfigFile is = absurd is
-has_failed takes failures from to (fault.Against cause) is = absurd is
-has_failed takes failures from to (fault.KeysFile unread) is = absurd is
-has_failed takes failures from to (fault.Outcomes number) is = absurd is
-has_failed takes failures from to (fault.Line number) is = absurd is
-has_failed takes failures from to fault.Check is = absurd is
-has_failed takes failures from to (fault.Delays delays) is = absurd is
-has_failed takes failures from to (fault.Listen cause) is = absurd is
-has_failed takes failures from to (fault.Metrics cause) is = absurd is
+pub has_failed : {O : Type 0} (takes : O → List ℕ → O → Type 0) (failures : O → ℕ) (options : ServeOptions) (from to : O)
+    (reason : Fault) → RunFails takes failures options from to reason → HasServeFailed takes failures from to
+has_failed takes failures options from to (fault.Listen cause) is = NotReady is.1
+has_failed takes failures options from to (fault.Metrics cause) is = NotReady is.1
+has_failed takes failures options from to fault.Write is = NotWritten is
+has_failed takes failures options from to fault.Accept is = Ready is
+has_failed takes failures options from to fault.Memory (inl same) = NotReady same
+has_failed takes failures options from to fault.Memory (inr ready) = Ready ready
+has_failed takes failures options from to fault.Read is = absurd is
+has_failed takes failures options from to fault.LineTooLong is = absurd is
+has_failed takes failures options from to (fault.Settings outside) is = absurd is
+has_failed takes failures options from to (fault.Config cause) is = absurd is
+has_failed takes failures options from to fault.ConfigFile is = absurd is
+has_failed takes failures options from to (fault.Against cause) is = absurd is
+has_failed takes failures options from to (fault.KeysFile unread) is = absurd is
+has_failed takes failures options from to (fault.Outcomes number) is = absurd is
+has_failed takes failures options from to (fault.Line number) is = absurd is
+has_failed takes failures options from to fault.Check is = absurd is
+has_failed takes failures options from to (fault.Delays delays) is = absurd is
 
--- and no line says why there is its fault
-pub never_explained : {O : Type 0} (takes : O → List ℕ → O → Type 0) (failures : O → ℕ) (from to : O) (reason : Fault)
-    → PreparedFails takes failures from to reason → IsExplained reason → ⊥
-never_explained takes failures from to fault.Read is config = absurd config
-never_explained takes failures from to fault.LineTooLong is config = absurd config
-never_explained takes failures from to (fault.Settings outside) is config = absurd is
-never_explained takes failures from to (fault.Config cause) is config = absurd is
-never_explained takes failures from to fault.ConfigFile is config = absurd config
-never_explained takes failures from to (fault.Against cause) is config = absurd config
-never_explained takes failures from to (fault.KeysFile unread) is config = absurd config
-never_explained takes failures from to (fault.Outcomes number) is config = absurd config
-never_explained takes failures from to (fault.Line number) is config = absurd config
-never_explained takes failures from to fault.Check is config = absurd config
-never_explained takes failures from to (fault.Delays delays) is config = absurd is
-never_explained takes failures from to (fault.Listen cause) is config = absurd is
-never_explained takes failures from to (fault.Metrics cause) is config = absurd is
-never_explained takes failures from to fault.Accept is config = absurd config
-never_explained takes failures from to fault.Write is config = absurd config
-never_explained takes failures from to fault.Memory is config = absurd config
+-- a text that the system refuses is an address
+refused_address : (cause : ListenFault) → IsAddressRefused cause → IsNoAddress cause → ⊥
+refused_address listen_fault.NoAddress refused none = absurd refused
+refused_address (listen_fault.System words) refused none = absurd none
+
+-- and its fault is none of the options
+pub never_of_options : {O : Type 0} (takes : O → List ℕ → O → Type 0) (failures : O → ℕ) (options : ServeOptions) (from to : O)
+    (reason : Fault) → RunFails takes failures options from to reason → IsOfOptions reason → ⊥
+never_of_options takes failures options from to (fault.Listen cause) is of = refused_address cause is.0 of
+never_of_options takes failures options from to (fault.Metrics cause) is of = refused_address cause is.0.refused of
+never_of_options takes failures options from to fault.Write is of = absurd of
+never_of_options takes failures options from to fault.Accept is of = absurd of
+never_of_options takes failures options from to fault.Memory is of = absurd of
+never_of_options takes failures options from to fault.Read is of = absurd is
+never_of_options takes failures options from to fault.LineTooLong is of = absurd is
+never_of_options takes failures options from to (fault.Settings outside) is of = absurd is
+never_of_options takes failures options from to (fault.Config cause) is of = absurd is
+never_of_options takes failures options from to fault.ConfigFile is of = absurd is
+never_of_options takes failures options from to (fault.Against cause) is of = absurd is
+never_of_options takes failures options from to (fault.KeysFile unread) is of = absurd is
+never_of_options takes failures options from to (fault.Outcomes number) is of = absurd is
+never_of_options takes failures options from to (fault.Line number) is of = absurd is
+never_of_options takes failures options from to fault.Check is of = absurd is
+never_of_options takes failures options from to (fault.Delays delays) is of = absurd is

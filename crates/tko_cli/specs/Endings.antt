@@ -13,7 +13,7 @@ use Rattle.tko_commands.specs.declared.fault.Fault.TheVariants as fault
 use Rattle.tko_cli.specs.Demos.{HasDemonstrated, IsDemoFault}
 use Rattle.tko_demo.specs.Stories.{StayFails}
 use Rattle.tko_cli.specs.Notices.{HasServerNotes}
-use Rattle.tko_cli.specs.Serving.{HasServeFailed, HasServedToEnd, ServeFails}
+use Rattle.tko_cli.specs.Serving.{HasServeFailed, HasServedToEnd, IsOfSystem, ServeFails}
 use Rattle.tko_options.specs.Asked.{IsReadFrom, IsRefusal}
 use Rattle.tko_options.specs.declared.asked.Asked.TheVariants as asked
 use Rattle.tko_options.specs.declared.check_options.CheckOptions.{CheckOptions}
@@ -39,7 +39,7 @@ pub record HasServedFor {O F : Type 0} (outlet : OutletGhosts O) (notes : Outlet
   pub loaded : ServeOptions
   pub text : IsLoadedServer options loaded
   pub served : HasServedToEnd outlet.takes loaded old.0 new.0
-  pub noted : HasServerNotes notes.takes notes.failures (string_bytes loaded.config) old.1 new.1
+  pub noted : HasServerNotes notes.takes notes.failures loaded old.1 new.1
 
 -- the text that is to be shown in place of a command
 abbrev pub answer_in : Refusal → Option (List ℕ)
@@ -89,7 +89,7 @@ pub record HasNotesFor {F : Type 0} (notes : OutletGhosts F) (options : ServeOpt
     : Type 0 where
   pub loaded : ServeOptions
   pub text : IsLoadedServer options loaded
-  pub noted : HasServerNotes notes.takes notes.failures (string_bytes loaded.config) old new
+  pub noted : HasServerNotes notes.takes notes.failures loaded old new
 
 -- there are the notes of the server that these words ask for
 pub record HasNotesOf {F : Type 0} (notes : OutletGhosts F) (words : List (List ℕ)) (old new : F)
@@ -122,7 +122,7 @@ pub data IsNotDone {I O : Type 0} (inlet : InletGhosts I) (outlet : OutletGhosts
       → IsNotDone inlet outlet words old new reason
 
 -- a fault came, of which this is known; its line was written, and nothing else but a line that says
--- why, or what is noted of a server that was ready to run
+-- why, or what is noted of a server, or, where the system refuses it an address, both
 pub data IsFaultTold {O F : Type 0} (takes : O → List ℕ → O → Type 0) (failures : O → ℕ)
     (notes : OutletGhosts F) (is_noted : F → F → Type 0) (came : Fault → Type 0)
     (from to : O) (old new : F) : Type 0
@@ -133,6 +133,9 @@ pub data IsFaultTold {O F : Type 0} (takes : O → List ℕ → O → Type 0) (f
         → HasServeFailed takes failures from to
         → is_noted old middle → IsFaultWritten notes.takes notes.failures reason middle new
         → IsFaultTold takes failures notes is_noted came from to old new
+    AfterRefusal : (middle : F) → to ≡ from → is_noted old middle
+        → IsReasonTold notes.takes notes.failures (λ reason. came reason × IsOfSystem reason)
+        middle new → IsFaultTold takes failures notes is_noted came from to old new
 
 -- by a fault the command that these words ask for ended, and its line was written; of `demo` it is
 -- a fault of its own

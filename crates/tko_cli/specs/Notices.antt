@@ -1,8 +1,11 @@
 -- What `serve` says beside its totals and its fault.
-use Rattle.std.specs.Prelude.{◌≡◌, ◌<◌, ℕ, List, ◌++◌, codes, decimal}
+use Rattle.std.specs.Prelude.{◌≡◌, ◌<◌, ℕ, List, [], ◌++◌, Option, Some, None, codes, decimal, option_map, string_bytes}
 use Rattle.tko_model.specs.Records.{Gains}
 use Rattle.tko_accept.specs.declared.allotment.Allotment.{Allotment}
+use Rattle.tko_commands.specs.Reasons.{HasLineOf}
+use Rattle.tko_explain.specs.OddAddresses.{IsAddressNote}
 use Rattle.tko_explain.specs.Reports.{IsWarnedOf}
+use Rattle.tko_options.specs.declared.serve_options.ServeOptions.{ServeOptions}
 use Rattle.tko_cli.specs.declared.notice.Notice.{Notice}
 use Rattle.tko_cli.specs.declared.notice.Notice.TheVariants as notice
 
@@ -50,9 +53,32 @@ pub data HasWarnings {O : Type 0} (takes : O → List ℕ → O → Type 0) (fai
   NotWarned : new ≡ old → HasWarnings takes failures json old new
   WarningFailed : failures old < failures new → HasWarnings takes failures json old new
 
--- a server says what is warned of in this text of its configuration, and then there are notices
-pub record HasServerNotes {O : Type 0} (takes : O → List ℕ → O → Type 0) (failures : O → ℕ)
-    (json : List ℕ) (old new : O) : Type 0 where
+-- what is said of the address of an option that may be left out: nothing where it is
+abbrev pub IsNoteIfAny : List ℕ → Option (List ℕ) → List ℕ → Type 0
+IsNoteIfAny front None note = note ≡ []
+IsNoteIfAny front (Some address) note = IsAddressNote front address note
+
+-- what is said of the addresses that the options give: of that of the clients, and then of that of
+-- the metrics
+pub record AreOptionNotes (options : ServeOptions) (text : List ℕ) : Type 0 where
+  pub listen : List ℕ
+  pub metrics : List ℕ
+  pub of_listen : IsAddressNote (codes "--listen") (string_bytes options.listen) listen
+  pub of_metrics :
+      IsNoteIfAny (codes "--metrics") (option_map string_bytes options.metrics) metrics
+  pub is : text ≡ listen ++ metrics
+
+-- a server says what is warned of in the text of its configuration, and then what is said of the
+-- addresses of its options
+pub record HasServerWarnings {O : Type 0} (takes : O → List ℕ → O → Type 0) (failures : O → ℕ)
+    (options : ServeOptions) (old new : O) : Type 0 where
   pub middle : O
-  pub warnings : HasWarnings takes failures json old middle
+  pub warnings : HasWarnings takes failures (string_bytes options.config) old middle
+  pub addresses : HasLineOf takes failures (AreOptionNotes options) middle new
+
+-- a server says what is warned of, and then there are notices
+pub record HasServerNotes {O : Type 0} (takes : O → List ℕ → O → Type 0) (failures : O → ℕ)
+    (options : ServeOptions) (old new : O) : Type 0 where
+  pub middle : O
+  pub warnings : HasServerWarnings takes failures options old middle
   pub notices : HasNotices takes failures middle new

@@ -1,5 +1,5 @@
 -- What `serve` runs on, and why its options name none of it.
-use Rattle.std.specs.Prelude.{◌≡◌, ℕ, Bool, length, true, false, Option, string_bytes}
+use Rattle.std.specs.Prelude.{◌≡◌, ℕ, Bool, List, length, true, false, Option, None, Some, option_map, string_bytes}
 use Rattle.tko_model.specs.Ranges.{IsWithinRanges}
 use Rattle.tko_model.specs.Settings.{Settings, in_one_group}
 use Rattle.tko_pools.specs.Addresses.{is_address}
@@ -48,8 +48,13 @@ plan_options options config = in_one_group (serve_settings options (length confi
 abbrev pub plan_settings : ServeOptions → Configuration → Settings
 plan_settings options config = grouped config (serve_settings options (length config.addresses))
 
+-- whether an address that may be left out is one, where it is there
+abbrev pub is_address_if_any : Option (List ℕ) → Bool
+is_address_if_any None = true
+is_address_if_any (Some address) = is_address address
+
 -- the configuration of the JSON, settings in their ranges, and delays in theirs; what it listens on
--- is an address
+-- is an address, and so is what its metrics listen on, if they are asked for
 pub record IsServePlan (options : ServeOptions) (plan : ServePlan) : Type 0 where
   pub config : Means (string_bytes options.config) plan.config
   pub settings : plan.settings ≡ plan_settings options plan.config
@@ -57,6 +62,7 @@ pub record IsServePlan (options : ServeOptions) (plan : ServePlan) : Type 0 wher
   pub first : plan.delays.first ≡ options.first_delay
   pub greatest : plan.delays.greatest ≡ options.greatest_delay
   pub listen : is_address (string_bytes options.listen) ≡ true
+  pub metrics : is_address_if_any (option_map string_bytes options.metrics) ≡ true
 
 -- a server of this plan, with the time limits, the limit of clients, the number of keys at once,
 -- how these are sent, and the number of connections that the options name, in a process that may
@@ -104,6 +110,13 @@ pub record HasNoAddress (options : ServeOptions) : Type 0 where
   pub delays : IsRange options.first_delay options.greatest_delay
   pub refused : is_address (string_bytes options.listen) ≡ false
 
+-- what its metrics are to listen on is no address, where all else is good
+pub record HasNoMetricsAddress (options : ServeOptions) : Type 0 where
+  pub set : IsSet options
+  pub delays : IsRange options.first_delay options.greatest_delay
+  pub listen : is_address (string_bytes options.listen) ≡ true
+  pub refused : is_address_if_any (option_map string_bytes options.metrics) ≡ false
+
 -- why the options name nothing to run on: the first reason
 abbrev pub NoPlan : ServeOptions → Fault → Type 0
 NoPlan options (fault.Config cause) = IsFlawedPlan options cause
@@ -111,5 +124,7 @@ NoPlan options (fault.Settings outside) = IsUnsetPlan options outside
 NoPlan options (fault.Delays delays) = HasBadDelays options delays
 NoPlan options (fault.Listen cause) =
     HasNoAddress options × (cause ≡ listen_fault.NoAddress)
+NoPlan options (fault.Metrics cause) =
+    HasNoMetricsAddress options × (cause ≡ listen_fault.NoAddress)
 NoPlan options fault.Memory = Unit {0}
 NoPlan options _ = ⊥

@@ -1,5 +1,5 @@
 -- What `serve` writes, and why it fails.
-use Rattle.std.specs.Prelude.{◌≡◌, ◌<◌, ◌⊎◌, ℕ, true, false, IfSome, IsSomeAnd, List, Option, bytes_eq, codes, is_some, option_map, string_bytes}
+use Rattle.std.specs.Prelude.{◌≡◌, ◌<◌, ◌⊎◌, ℕ, true, false, IfSome, List, Option, bytes_eq, codes, is_some, string_bytes}
 use Rattle.tko_cli.specs.Announcements.{ready_text}
 use Rattle.tko_cli.specs.Planned.{IsServePlan, IsServerOf, NoPlan}
 use Rattle.tko_cli.specs.Totals.{totals_text}
@@ -11,7 +11,6 @@ use Rattle.tko_commands.specs.declared.listen_fault.ListenFault.TheVariants as l
 use Rattle.tko_cli.specs.declared.planned.ServePlan.{ServePlan}
 use Rattle.tko_cli.specs.declared.prepared.Prepared.{Prepared}
 use Rattle.tko_model.specs.Ranges.{IsWithinRanges}
-use Rattle.tko_pools.specs.Addresses.{is_address}
 use Rattle.tko_server.specs.Beside.{IsLogOf, IsMeterOf}
 use Rattle.tko_server.specs.Closing.{HasServerEnded}
 use Rattle.tko_server.specs.Runs.{tracker_settings}
@@ -69,7 +68,7 @@ fault_of_server server_fault.Memory = fault.Memory
 fault_of_server server_fault.Announce = fault.Write
 fault_of_server server_fault.Accept = fault.Accept
 
--- a server that was ready to run ended by a fault: the outlet failed, or `ready` went out and
+-- a server that the options name ended by a fault: the outlet failed, or `ready` went out and
 -- nothing else, or nothing at all
 pub data HasServeFailed {O : Type 0} (takes : O → List ℕ → O → Type 0) (failures : O → ℕ)
     (from to : O) : Type 0 where
@@ -77,26 +76,39 @@ pub data HasServeFailed {O : Type 0} (takes : O → List ℕ → O → Type 0) (
   Ready : takes from ready_text to → HasServeFailed takes failures from to
   NotReady : to ≡ from → HasServeFailed takes failures from to
 
--- nothing was noted, or a server that was ready to run failed, and this was noted of it
+-- nothing was noted, or a server that the options name failed, and this was noted of it
 pub data IsSilentOrNoted {O F : Type 0} (takes : O → List ℕ → O → Type 0) (failures : O → ℕ)
     (is_noted : F → F → Type 0) (from to : O) (old new : F) : Type 0 where
   Silent : new ≡ old → IsSilentOrNoted takes failures is_noted from to old new
   WithNotes : HasServeFailed takes failures from to → is_noted old new
       → IsSilentOrNoted takes failures is_noted from to old new
 
--- a line of its own says why there is this fault
-abbrev pub IsExplained : Fault → Type 0
-IsExplained (fault.Config cause) = Unit {0}
-IsExplained (fault.Settings outside) = Unit {0}
-IsExplained (fault.Delays delays) = Unit {0}
-IsExplained (fault.Listen cause) = Unit {0}
-IsExplained (fault.Metrics cause) = Unit {0}
-IsExplained other = ⊥
+-- a text is no address
+abbrev pub IsNoAddress : ListenFault → Type 0
+IsNoAddress listen_fault.NoAddress = Unit {0}
+IsNoAddress (listen_fault.System words) = ⊥
 
 -- the system refuses an address
 abbrev pub IsAddressRefused : ListenFault → Type 0
 IsAddressRefused (listen_fault.System words) = Unit {0}
 IsAddressRefused listen_fault.NoAddress = ⊥
+
+-- a fault of the configuration or of an option, which comes before anything is noted, and of which
+-- a line of its own says why
+abbrev pub IsOfOptions : Fault → Type 0
+IsOfOptions (fault.Config cause) = Unit {0}
+IsOfOptions (fault.Settings outside) = Unit {0}
+IsOfOptions (fault.Delays delays) = Unit {0}
+IsOfOptions (fault.Listen cause) = IsNoAddress cause
+IsOfOptions (fault.Metrics cause) = IsNoAddress cause
+IsOfOptions other = ⊥
+
+-- a fault of the system where the server is to listen, which comes after the notes, and of which a
+-- line of its own says why
+abbrev pub IsOfSystem : Fault → Type 0
+IsOfSystem (fault.Listen cause) = IsAddressRefused cause
+IsOfSystem (fault.Metrics cause) = IsAddressRefused cause
+IsOfSystem other = ⊥
 
 -- the system refuses the address, or memory ran out
 abbrev pub HasNoListener : Fault → Type 0
@@ -104,35 +116,30 @@ HasNoListener (fault.Listen cause) = IsAddressRefused cause
 HasNoListener fault.Memory = Unit {0}
 HasNoListener other = ⊥
 
+-- the options ask for metrics at an address that the system refuses
+pub record IsRefusedMetrics (options : ServeOptions) (cause : ListenFault) : Type 0 where
+  pub asked : is_some options.metrics ≡ true
+  pub refused : IsAddressRefused cause
+
+-- the options ask for metrics at an address that the system refuses, or memory ran out
+abbrev pub HasNoMetrics : ServeOptions → Fault → Type 0
+HasNoMetrics options (fault.Metrics cause) = IsRefusedMetrics options cause
+HasNoMetrics options fault.Memory = Unit {0}
+HasNoMetrics options _ = ⊥
+
+-- why nothing was opened: the system refuses the address of the clients, or that of the metrics, or
+-- memory ran out
+abbrev pub HasNotOpened : ServeOptions → Fault → Type 0
+HasNotOpened options (fault.Listen cause) = IsAddressRefused cause
+HasNotOpened options (fault.Metrics cause) = IsRefusedMetrics options cause
+HasNotOpened options fault.Memory = Unit {0}
+HasNotOpened options _ = ⊥
+
 -- `ready` went out and nothing else
 pub record IsOnlyReady {O : Type 0} (takes : O → List ℕ → O → Type 0) (options : ServeOptions)
     (from to : O) : Type 0 where
   pub plan : HasPlan options
   pub ready : takes from ready_text to
-
--- nothing can listen at this address: it is none, or the system refuses one
-abbrev pub IsNoListenerAt : ListenFault → List ℕ → Type 0
-IsNoListenerAt listen_fault.NoAddress address = is_address address ≡ false
-IsNoListenerAt (listen_fault.System words) address = is_address address ≡ true
-
--- the options ask for metrics at an address where nothing can listen, or memory ran out
-abbrev pub HasNoMetrics : ServeOptions → Fault → Type 0
-HasNoMetrics options (fault.Metrics cause) =
-    IsSomeAnd (option_map string_bytes options.metrics) (IsNoListenerAt cause)
-HasNoMetrics options fault.Memory = Unit {0}
-HasNoMetrics options _ = ⊥
-
--- why nothing can run: the options name nothing to run on, the system refuses the address there,
--- nothing can listen where they ask for metrics, or memory ran out
-abbrev pub IsUnprepared : ServeOptions → Fault → Type 0
-IsUnprepared options (fault.Listen cause) =
-    NoPlan options (fault.Listen cause) ⊎ (HasPlan options × IsAddressRefused cause)
-IsUnprepared options (fault.Metrics cause) =
-    HasPlan options × HasNoMetrics options (fault.Metrics cause)
-IsUnprepared options fault.Write = ⊥
-IsUnprepared options fault.Accept = ⊥
-IsUnprepared options fault.Memory = Unit {0}
-IsUnprepared options reason = NoPlan options reason
 
 -- why the totals were not written: the outlet failed, or memory ran out, and then nothing was
 abbrev pub TotalsFail : {O : Type 0} → (O → ℕ) → O → O → Fault → Type 0
@@ -149,15 +156,23 @@ module _ {O : Type 0} (takes : O → List ℕ → O → Type 0) (failures : O �
   PreparedFails from to fault.Memory = (to ≡ from) ⊎ takes from ready_text to
   PreparedFails from to _ = ⊥
 
-  -- why it fails: the options name nothing to run on, the system refuses the address there, or
-  -- nothing can listen where the metrics are asked for, and then nothing was written; the outlet
-  -- failed; accepting failed after `ready`; or memory ran out, and then `ready` went out or nothing
+  -- why a server that the options name fails: the system refuses an address, and then nothing was
+  -- written, or as one that was ready to run does
+  abbrev pub RunFails : ServeOptions → O → O → Fault → Type 0
+  RunFails options from to (fault.Listen cause) = IsAddressRefused cause × (to ≡ from)
+  RunFails options from to (fault.Metrics cause) = IsRefusedMetrics options cause × (to ≡ from)
+  RunFails options from to reason = PreparedFails from to reason
+
+  -- why it fails: the options name nothing to run on, or the system refuses an address, and then
+  -- nothing was written; the outlet failed; accepting failed after `ready`; or memory ran out, and
+  -- then `ready` went out or nothing
   abbrev pub ServeFails : ServeOptions → O → O → Fault → Type 0
   ServeFails options from to (fault.Listen cause) =
       (NoPlan options (fault.Listen cause) ⊎ (HasPlan options × IsAddressRefused cause))
       × (to ≡ from)
   ServeFails options from to (fault.Metrics cause) =
-      HasPlan options × HasNoMetrics options (fault.Metrics cause) × (to ≡ from)
+      (NoPlan options (fault.Metrics cause) ⊎ (HasPlan options × IsRefusedMetrics options cause))
+      × (to ≡ from)
   ServeFails options from to fault.Write = failures from < failures to
   ServeFails options from to fault.Accept = IsOnlyReady takes options from to
   ServeFails options from to fault.Memory = (to ≡ from) ⊎ IsOnlyReady takes options from to

@@ -3,8 +3,7 @@ ghost use Rattle.std.specs.Prelude.{IfErr, IfOk};
 ghost use Rattle.tko_cli.specs.Serving.{IsNamed, IsRunnable};
 ghost use Rattle.tko_demo.specs.Faults.{IsUnavailable};
 
-use crate::open_files::open_file_limit;
-use crate::planned::plan_of;
+use crate::planned::named_server;
 use crate::prepared::{Prepared, logging_of};
 use crate::serving::run_announced;
 use std::alloc::{AllocError, Global};
@@ -140,8 +139,7 @@ fn prepare_at<R: IoRuntime + Files<File = File>>(
 ) -> Result<Prepared, Fault>
     ensures { IfOk result (λ prepared. IsNamed options.now prepared.server) }
 {
-    let plan = plan_of(alloc, options)?;
-    let server = plan.server(options, open_file_limit(rt, alloc));
+    let server = named_server(rt, alloc, options)?;
     let logging = logging_of(rt, alloc, options, &server)?;
     Ok(Prepared {
         mode: options.mode,

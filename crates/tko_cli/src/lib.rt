@@ -11,6 +11,7 @@ mod announcement;
 mod demo;
 mod demo_proxy;
 mod notice;
+mod odd_options;
 mod open_files;
 mod planned;
 mod prepared;

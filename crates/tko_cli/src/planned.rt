@@ -1,8 +1,11 @@
 //! What `serve` runs on, read from its options before anything is opened.
-ghost use Rattle.std.specs.Prelude.{◌≡◌, IfOk, IfErr};
-ghost use Rattle.tko_cli.specs.Planned.{IsServePlan, IsServerOf, NoPlan, serve_grouping, serve_keys, serve_patience};
+ghost use Rattle.std.specs.Prelude.{◌≡◌, IfErr, IfOk, option_map, string_bytes};
+ghost use Rattle.tko_cli.specs.Planned.{IsServePlan, IsServerOf, NoPlan, is_address_if_any, serve_grouping, serve_keys, serve_patience};
+ghost use Rattle.tko_cli.specs.Serving.{IsNamed};
 
+use crate::open_files::open_file_limit;
 use std::alloc::Global;
+use std::fs::{File, Files};
 use tko_commands::{Fault, ListenFault, RefusedDelays, settings_over};
 use tko_keys::{Grouping, KeyPlan};
 use tko_model::Settings;
@@ -69,8 +72,21 @@ fn patience_of(options: &ServeOptions) -> Patience
     }
 }
 
-/// Reads what the options name, in the order configuration, settings, delays, address.
-pub(crate) fn plan_of(alloc: Global, options: &ServeOptions) -> Result<ServePlan, Fault>
+/// A server that the options name, in a process with the open files that the system allows it.
+pub(crate) fn named_server<R: Files<File = File>>(
+    rt: &R,
+    alloc: Global,
+    options: &ServeOptions,
+) -> Result<tko_server::Options, Fault>
+    ensures ok { IfOk result (IsNamed options.now) }
+    ensures err { IfErr result (NoPlan options.now) }
+{
+    let plan = plan_of(alloc, options)?;
+    Ok(plan.server(options, open_file_limit(rt, alloc)))
+}
+
+/// Reads what the options name, in the order configuration, settings, delays, addresses.
+fn plan_of(alloc: Global, options: &ServeOptions) -> Result<ServePlan, Fault>
     ensures ok { IfOk result (IsServePlan options.now) }
     ensures err { IfErr result (NoPlan options.now) }
 {
@@ -83,9 +99,22 @@ pub(crate) fn plan_of(alloc: Global, options: &ServeOptions) -> Result<ServePlan
     if !is_address(options.listen.as_bytes()) {
         return Err(Fault::Listen(ListenFault::NoAddress));
     }
+    if !is_address_if_any(&options.metrics) {
+        return Err(Fault::Metrics(ListenFault::NoAddress));
+    }
     Ok(ServePlan {
         config,
         settings,
         delays,
     })
+}
+
+/// Whether there is no text, or it is an address.
+fn is_address_if_any(text: &Option<String>) -> bool
+    ensures { result ≡ is_address_if_any (option_map string_bytes text.now) }
+{
+    match text {
+        Some(address) => is_address(address.as_bytes()),
+        None => true,
+    }
 }

@@ -1,10 +1,8 @@
 //! A server that is ready to run, with what runs beside it.
 ghost use Rattle.std.specs.Prelude.{◌≡◌, IfErr, IfOk, IfSome, bytes_eq, codes, is_some, string_bytes};
-ghost use Rattle.tko_cli.specs.Serving.{HasBeside, HasNoListener, HasNoMetrics, IsNamed, IsUnprepared};
+ghost use Rattle.tko_cli.specs.Serving.{HasBeside, HasNoListener, HasNoMetrics, HasNotOpened};
 ghost use Rattle.tko_server.specs.Beside.{IsLogOf, IsMeterOf};
 
-use crate::open_files::open_file_limit;
-use crate::planned::plan_of;
 use std::alloc::{AllocError, Global};
 use std::fs::{File, Files};
 use std::net::TcpListener;
@@ -12,7 +10,6 @@ use tko_commands::{Fault, ListenFault};
 use tko_io::IoRuntime;
 use tko_metrics::Process;
 use tko_options::{Mode, ServeOptions};
-use tko_pools::is_address;
 use tko_server::{Logging, Metering};
 
 /// A server that is ready to run, with its listener.
@@ -26,19 +23,18 @@ pub(crate) struct Prepared {
     pub metering: Option<Metering>,
 }
 
-/// What the options name, with a listener for its clients, and with the event log and the metrics
-/// that the options ask for.
+/// This server, with a listener for its clients, and with the event log and the metrics that the
+/// options ask for.
 pub(crate) fn prepare<R: IoRuntime<Listener = TcpListener> + Files<File = File>>(
     rt: &R,
     alloc: Global,
     options: &ServeOptions,
+    server: tko_server::Options,
 ) -> Result<Prepared, Fault>
-    ensures ok { IfOk result (λ prepared. IsNamed options.now prepared.server) }
+    ensures ok { IfOk result (λ prepared. prepared.server ≡ server) }
     ensures beside { IfOk result (HasBeside options.now) }
-    ensures err { IfErr result (IsUnprepared options.now) }
+    ensures err { IfErr result (HasNotOpened options.now) }
 {
-    let plan = plan_of(alloc, options)?;
-    let server = plan.server(options, open_file_limit(rt, alloc));
     let logging = logging_of(rt, alloc, options, &server)?;
     let listener = listener_of(rt, alloc, options.listen.as_str())?;
     let metering = metering_of(rt, alloc, options, &server)?;
@@ -111,9 +107,6 @@ fn metering_of<R: IoRuntime<Listener = TcpListener> + Files<File = File>>(
     let Some(address) = &options.metrics else {
         return Ok(None);
     };
-    if !is_address(address.as_bytes()) {
-        return Err(Fault::Metrics(ListenFault::NoAddress));
-    }
     match bound(rt, alloc, address.as_str())? {
         Ok(listener) => Ok(Some(metering_at(rt, alloc, listener, server)?)),
         Err(words) => Err(Fault::Metrics(ListenFault::System(words))),

@@ -100,10 +100,10 @@ fn serve_loaded<
 >(rt: &R, alloc: Global, options: &ServeOptions, output: &mut O, faults: &mut F) -> u8
     ensures status { result ≤ 1 }
     ensures done { result ≡ 0 → HasServedToEnd O.takes options.now output.old output.new }
-    ensures noted { result ≡ 0 → HasServerNotes F.takes F.failures
-        (string_bytes options.now.config) faults.old faults.new }
+    ensures noted { result ≡ 0 → HasServerNotes F.takes F.failures options.now
+        faults.old faults.new }
     ensures fault { result ≡ 1 → IsFaultTold O.takes O.failures F.Outlet
-        (HasServerNotes F.takes F.failures (string_bytes options.now.config))
+        (HasServerNotes F.takes F.failures options.now)
         (ServeFails O.takes O.failures options.now output.old output.new)
         output.old output.new faults.old faults.new }
 {

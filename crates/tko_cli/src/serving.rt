@@ -1,15 +1,17 @@
 //! The command `serve`: a server over TCP, and its totals.
-ghost use Rattle.std.specs.Prelude.{◌≡◌, IfErr, IfOk, OnErr, OnOk, string_bytes};
+ghost use Rattle.std.specs.Prelude.{◌≡◌, IfErr, IfOk, OnErr, OnOk};
 ghost use Rattle.tko_cli.specs.Announcements.{IsReadyWritten};
-ghost use Rattle.tko_cli.specs.Notices.{HasNotices, HasServerNotes};
-ghost use Rattle.tko_cli.specs.Serving.{HasServedToEnd, HasTotals, IsExplained, IsRunnable, IsSilentOrNoted, PreparedFails, ServeFails, TotalsFail, fault_of_server};
+ghost use Rattle.tko_cli.specs.Notices.{HasNotices, HasServerNotes, HasServerWarnings};
+ghost use Rattle.tko_cli.specs.Serving.{HasServedToEnd, HasTotals, IsNamed, IsOfOptions, IsRunnable, IsSilentOrNoted, PreparedFails, RunFails, ServeFails, TotalsFail, fault_of_server};
 ghost use Rattle.tko_cli.specs.Totals.{totals_text};
 ghost use Rattle.tko_server.specs.Closing.{HasServerEnded};
 ghost use Rattle.tko_server.specs.ServerRuns.{IsServerRun};
 
 use crate::announcement::{Announcement, give_back};
 use crate::notice::{Notice, write_notice, write_notice_if, write_warnings};
+use crate::odd_options::write_odd_options;
 use crate::open_files::has_no_memory_limit;
+use crate::planned::named_server;
 use crate::prepared::{Prepared, prepare};
 use crate::totals::totals_lines;
 use std::alloc::Global;
@@ -24,8 +26,9 @@ use tko_server::{Announce, Ended, ServerRun, ServerRunFault, WorkerKind, WorkerR
 
 /// Serves clients over TCP until the last of the connections has ended, and then prints the totals.
 /// `ready` is printed once clients can connect: when each worker has asked for its first one.
-/// Before it come the warnings on the configuration and a notice of what the server does with its
-/// descriptors, and before the totals notices say what the workers met.
+/// Before it listens come the warnings on the configuration and on the addresses of the options,
+/// before `ready` a notice of what the server does with its descriptors, and before the totals
+/// notices say what the workers met.
 pub(crate) fn serve<
     R: IoRuntime<Listener = TcpListener>
         + Threads
@@ -46,15 +49,58 @@ pub(crate) fn serve<
 ) -> Result<(), Fault>
     ensures ok { OnOk result (HasServedToEnd O.takes options.now output.old output.new) }
     ensures err { IfErr result (ServeFails O.takes O.failures options.now output.old output.new) }
-    ensures noted { OnOk result (HasServerNotes F.takes F.failures
-        (string_bytes options.now.config) faults.old faults.new) }
+    ensures noted { OnOk result (HasServerNotes F.takes F.failures options.now
+        faults.old faults.new) }
     ensures told { OnErr result (IsSilentOrNoted O.takes O.failures
-        (HasServerNotes F.takes F.failures (string_bytes options.now.config))
+        (HasServerNotes F.takes F.failures options.now)
         output.old output.new faults.old faults.new) }
-    ensures refused { IfErr result (λ fault. IsExplained fault → faults.new ≡ faults.old) }
+    ensures refused { IfErr result (λ fault. IsOfOptions fault → faults.new ≡ faults.old) }
 {
-    let prepared = prepare(rt, alloc, options)?;
+    let server = named_server(rt, alloc, options)?;
+    write_server_warnings(rt, alloc, faults, options);
+    run_named(rt, alloc, options, server, output, faults)
+}
+
+/// Writes what is warned of in the configuration and in the addresses of the options.
+fn write_server_warnings<R: IoRuntime, F: Outlet>(
+    rt: &R,
+    alloc: Global,
+    faults: &mut F,
+    options: &ServeOptions,
+)
+    ensures { HasServerWarnings F.takes F.failures options.now faults.old faults.new }
+{
     write_warnings(rt, alloc, faults, options.config.as_str());
+    write_odd_options(rt, alloc, faults, options);
+}
+
+/// Opens what this server listens on, and runs it to its end.
+fn run_named<
+    R: IoRuntime<Listener = TcpListener>
+        + Threads
+        + Sync
+        + Copy
+        + Send
+        + 'static
+        + Files<File = File>
+        + Eprint,
+    O: Outlet,
+    F: Outlet,
+>(
+    rt: &R,
+    alloc: Global,
+    options: &ServeOptions,
+    server: tko_server::Options,
+    output: &mut O,
+    faults: &mut F,
+) -> Result<(), Fault>
+    requires { IsNamed options.now server }
+    ensures ok { OnOk result (HasTotals O.takes server output.old output.new) }
+    ensures err { IfErr result
+        (RunFails O.takes O.failures options.now output.old output.new) }
+    ensures noted { HasNotices F.takes F.failures faults.old faults.new }
+{
+    let prepared = prepare(rt, alloc, options, server)?;
     note_memory(rt, alloc, faults);
     run_prepared(rt, alloc, prepared, output, faults)
 }

@@ -1,12 +1,12 @@
 -- What is said of addresses, one after another.
-use Rattle.std.proofs.Common.{◌≡◌, ℕ, suc, ◌+◌, ◌<◌, ◌≤◌, List, [], ◌∷◌, ◌++◌, length, get_or, drop, map, refl, sym, ap, ◌∙◌, subst, append_assoc, append-nil, add-one}
+use Rattle.std.proofs.Common.{◌≡◌, ℕ, suc, ◌+◌, ◌<◌, ◌≤◌, List, [], ◌∷◌, ◌++◌, length, get_or, drop, map, refl, sym, ap, ◌∙◌, subst, append_assoc, append-nil, add-one, codes}
 use Rattle.std.proofs.lemmas.List.{drop_all}
 use Rattle.std.proofs.Math.Seq.{drop-cons}
 use Rattle.tko_explain.specs.OddAddresses.{AreAddressNotes, IsAddressNote}
 
 -- the note of one more address
 pub notes_left : {A : Type 0} (f : A → List ℕ) (all : List (List ℕ)) (xs : List A) (i : ℕ) (item : A)
-    (text note new : List ℕ) → i < length xs → item ≡ get_or xs i item → IsAddressNote (f item) note → new ≡ text ++ note
+    (text note new : List ℕ) → i < length xs → item ≡ get_or xs i item → IsAddressNote (codes "server") (f item) note → new ≡ text ++ note
     → ((rest : List ℕ) → AreAddressNotes (map f (drop i xs)) rest → AreAddressNotes all (text ++ rest))
     → (rest : List ℕ) → AreAddressNotes (map f (drop (i + 1) xs)) rest → AreAddressNotes all (new ++ rest)
 notes_left f all xs i item text note new inside here is grown so_far rest are =

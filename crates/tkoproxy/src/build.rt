@@ -2,5 +2,5 @@
 
 /// The sum of the sources, which `release/hash` prints, and the kit that built them.
 pub(crate) const BUILD: &str =
-    "sources 5f52a0e537f8455941473b84c4a35f68dadd27a1a6b45667105b85f1297b58c4, \
+    "sources e62ca0c061e661b67ee2fe45719dbd09c27248dd075282ce8a80dd8abd9a612c, \
     rattle-kit-13f logic dac8208d650f15bf";

@@ -1,4 +1,4 @@
-use Rattle.std.proofs.Common.{refl, string_bytes}
+use Rattle.std.proofs.Common.{refl}
 use Rattle.tko_cli.proofs.EndingLemmas.{fault_as}
 use Rattle.tko_cli.specs.Endings.{AfterReason, HasNotServed, HasNotesFor, NoServerFile, NotServed}
 use Rattle.tko_cli.specs.Notices.{HasServerNotes}
@@ -27,7 +27,7 @@ returns-in-Ok-clause-fault g c = λ is.
     let to = c.serve_loaded.new.output in
     rw c.in-Ok.ensures.kept at
     (fault_as g.O.Outlet.takes g.O.Outlet.failures g.F.Outlet
-    (HasServerNotes g.F.Outlet.takes g.F.Outlet.failures (string_bytes c.in-Ok.options.config))
+    (HasServerNotes g.F.Outlet.takes g.F.Outlet.failures c.in-Ok.options)
     (HasNotesFor g.F.Outlet c.args.options)
     (ServeFails g.O.Outlet.takes g.O.Outlet.failures c.in-Ok.options from to)
     (HasNotServed g.O.Outlet.takes g.O.Outlet.failures c.args.options from to) from to

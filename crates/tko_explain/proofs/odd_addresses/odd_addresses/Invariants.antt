@@ -1,4 +1,4 @@
-use Rattle.std.proofs.Common.{◌≡◌, ◌++◌, ℕ, List, drop, map, string_bytes}
+use Rattle.std.proofs.Common.{◌++◌, ℕ, List, drop, map, string_bytes}
 use Rattle.tko_explain.specs.OddAddresses.{AreAddressNotes}
 use Rattle.tko_explain.proofs.odd_addresses.odd_addresses.Given as goal
 
