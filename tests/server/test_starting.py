@@ -8,7 +8,7 @@ import unittest
 
 import parts
 from parts import ServerTest, configuration, serve_words, start, stop
-from ports import free_port
+from ports import HOST, free_port
 from talk import Client
 
 VERSION = b"VERSION tkoproxy 1\r\n"
@@ -71,6 +71,16 @@ class Warnings(ServerTest):
         said = self.proxy(config).error_text().splitlines()
         self.assertEqual([line for line in said if line.startswith(b"warning: ")], warnings)
         self.assertEqual(said[0], warnings[0])
+
+    def test_a_check_of_the_same_words_leaves_a_running_proxy_alone(self):
+        proxy = self.proxy(configuration(only=[self.memcached()]), metrics=f"{HOST}:{free_port()}")
+        words = proxy.process.args
+        checked = subprocess.run([*words, "--check"], capture_output=True, timeout=LIMIT, check=True)
+        self.assertEqual((checked.stdout, checked.stderr), (b"valid\n", b""))
+        started = subprocess.run(words, capture_output=True, timeout=LIMIT)
+        self.assertEqual((started.returncode, started.stdout), (1, b""))
+        self.assertEqual(started.stderr.splitlines()[-1], b"fault: listen")
+        self.assertEqual(proxy.client().ask(b"version\r\n"), VERSION)
 
     def test_an_ordinary_configuration_has_none(self):
         said = self.proxy(configuration(only=[self.memcached()])).error_text()

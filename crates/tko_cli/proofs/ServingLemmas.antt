@@ -15,7 +15,7 @@ use Rattle.tko_commands.specs.declared.listen_fault.ListenFault.{ListenFault}
 use Rattle.tko_commands.specs.declared.listen_fault.ListenFault.TheVariants as listen_fault
 use Rattle.tko_cli.specs.Planned.{IsServePlan, IsServerOf, NoPlan}
 use Rattle.tko_cli.specs.Announcements.{HasNotPrinted, HasPrinted, ready_text}
-use Rattle.tko_cli.specs.Serving.{HasNoListener, HasNoMetrics, HasNotOpened, HasPlan, HasServeFailed, IsAddressRefused, IsNamed, IsNoAddress, IsOfOptions, IsRunnable, NotReady, NotWritten, PreparedFails, Ready, RunFails, ServeFails, TotalsFail, fault_of_server}
+use Rattle.tko_cli.specs.Serving.{HasNoListener, HasNoMetrics, HasNotOpened, HasPlan, HasServeFailed, IsAddressRefused, IsToRun, IsNamed, IsNoAddress, IsOfOptions, IsRunnable, NotReady, NotWritten, PreparedFails, Ready, RunFails, ServeFails, TotalsFail, fault_of_server}
 use Rattle.tko_cli.specs.declared.announcement.Announcement.{Announcement}
 use Rattle.tko_cli.specs.declared.planned.ServePlan.{ServePlan}
 use Rattle.tko_cli.specs.declared.prepared.Prepared.{Prepared}
@@ -201,7 +201,7 @@ unnamed_fails takes failures options from (fault.Delays delays) none = (none, re
 
 -- why a server that the options name fails
 pub named_fails : {O : Type 0} (takes : O → List ℕ → O → Type 0) (failures : O → ℕ) (options : ServeOptions)
-    (from to : O) (reason : Fault) → HasPlan options → RunFails takes failures options from to reason
+    (from to : O) (reason : Fault) → IsToRun options → RunFails takes failures options from to reason
     → ServeFails takes failures options from to reason
 named_fails takes failures options from to (fault.Listen cause) plan is = (inr (plan, is.0), is.1)
 named_fails takes failures options from to (fault.Metrics cause) plan is = (inr (plan, is.0), is.1)
@@ -220,6 +220,17 @@ named_fails takes failures options from to (fault.Outcomes number) plan is = abs
 named_fails takes failures options from to (fault.Line number) plan is = absurd is
 named_fails takes failures options from to fault.Check plan is = absurd is
 named_fails takes failures options from to (fault.Delays delays) plan is = absurd is
+
+-- what a check prints did not go out
+pub unwritten_fails : {O : Type 0} (takes : O → List ℕ → O → Type 0) (failures : O → ℕ) (options : ServeOptions)
+    (from to : O) (reason : Fault) → (reason ≡ fault.Write) × (failures from < failures to)
+    → ServeFails takes failures options from to reason
+unwritten_fails takes failures options from to reason is =
+    subst (λ it. ServeFails takes failures options from to it) (sym is.0) is.1
+
+-- and that is no fault of the options
+pub unwritten_never : (reason : Fault) → reason ≡ fault.Write → IsOfOptions reason → ⊥
+unwritten_never reason is of = absurd (subst IsOfOptions is of)
 
 -- how such a server has failed
 pub has_failed : {O : Type 0} (takes : O → List ℕ → O → Type 0) (failures : O → ℕ) (options : ServeOptions) (from to : O)

@@ -1,10 +1,14 @@
--- What the announcement of a server writes.
+-- What the announcement of a server writes, and what a check writes in its place.
 use Rattle.std.specs.Prelude.{◌≡◌, ◌<◌, ℕ, List, codes}
 use Rattle.tko_cli.specs.declared.announcement.Announcement.{Announcement}
 
 -- what is printed once clients can connect
 abbrev pub ready_text : List ℕ
 ready_text = codes "ready\n"
+
+-- what is printed where a check finds no fault
+abbrev pub valid_text : List ℕ
+valid_text = codes "valid\n"
 
 -- `ready` went out and nothing else, and the outlet did not fail
 pub record IsReadyWritten {O : Type 0} (takes : O → List ℕ → O → Type 0) (failures : O → ℕ)

@@ -13,7 +13,7 @@ use Rattle.tko_commands.specs.declared.fault.Fault.TheVariants as fault
 use Rattle.tko_cli.specs.Demos.{HasDemonstrated, IsDemoFault}
 use Rattle.tko_demo.specs.Stories.{StayFails}
 use Rattle.tko_cli.specs.Notices.{HasServerNotes}
-use Rattle.tko_cli.specs.Serving.{HasServeFailed, HasServedToEnd, IsOfSystem, ServeFails}
+use Rattle.tko_cli.specs.Serving.{HasServeFailed, HasServedOrChecked, IsOfSystem, ServeFails}
 use Rattle.tko_options.specs.Asked.{IsReadFrom, IsRefusal}
 use Rattle.tko_options.specs.declared.asked.Asked.TheVariants as asked
 use Rattle.tko_options.specs.declared.check_options.CheckOptions.{CheckOptions}
@@ -33,12 +33,12 @@ abbrev pub ends : {I O F : Type 0} → I → O → F → CommandEnds I O F
 ends input output faults = record { input = input; output = output; faults = faults }
 
 -- a server of these options, with the text of their configuration's file if they name one, ran to
--- its end, and there are its notes
+-- its end, or was only checked, and there are its notes
 pub record HasServedFor {O F : Type 0} (outlet : OutletGhosts O) (notes : OutletGhosts F)
     (options : ServeOptions) (old new : O × F) : Type 0 where
   pub loaded : ServeOptions
   pub text : IsLoadedServer options loaded
-  pub served : HasServedToEnd outlet.takes loaded old.0 new.0
+  pub served : HasServedOrChecked outlet.takes loaded old.0 new.0
   pub noted : HasServerNotes notes.takes notes.failures loaded old.1 new.1
 
 -- the text that is to be shown in place of a command

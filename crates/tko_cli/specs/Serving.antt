@@ -1,6 +1,6 @@
 -- What `serve` writes, and why it fails.
 use Rattle.std.specs.Prelude.{◌≡◌, ◌<◌, ◌⊎◌, ℕ, true, false, IfSome, List, Option, bytes_eq, codes, is_some, string_bytes}
-use Rattle.tko_cli.specs.Announcements.{ready_text}
+use Rattle.tko_cli.specs.Announcements.{ready_text, valid_text}
 use Rattle.tko_cli.specs.Planned.{IsServePlan, IsServerOf, NoPlan}
 use Rattle.tko_cli.specs.Totals.{totals_text}
 use Rattle.tko_commands.specs.Faults.{fault_of_setting}
@@ -57,6 +57,15 @@ pub record HasServedToEnd {O : Type 0} (takes : O → List ℕ → O → Type 0)
   pub named : IsNamed options server
   pub totals : HasTotals takes server from to
 
+-- what a server of these options did to its end: it ran; or, where they ask for a check alone, they
+-- name what to run on, and that it is valid went out and nothing else
+pub data HasServedOrChecked {O : Type 0} (takes : O → List ℕ → O → Type 0) (options : ServeOptions)
+    (from to : O) : Type 0 where
+  RanToEnd : options.only_check ≡ false → HasServedToEnd takes options from to
+      → HasServedOrChecked takes options from to
+  OnlyChecked : options.only_check ≡ true → HasPlan options → takes from valid_text to
+      → HasServedOrChecked takes options from to
+
 -- no setting of the server is out of its range
 abbrev pub IsRunnable : Prepared → Type 0
 IsRunnable prepared = IsWithinRanges (tracker_settings prepared.server)
@@ -68,8 +77,8 @@ fault_of_server server_fault.Memory = fault.Memory
 fault_of_server server_fault.Announce = fault.Write
 fault_of_server server_fault.Accept = fault.Accept
 
--- a server that the options name ended by a fault: the outlet failed, or `ready` went out and
--- nothing else, or nothing at all
+-- a server that the options name, or a check of them, ended by a fault: the outlet failed, or
+-- `ready` went out and nothing else, or nothing at all
 pub data HasServeFailed {O : Type 0} (takes : O → List ℕ → O → Type 0) (failures : O → ℕ)
     (from to : O) : Type 0 where
   NotWritten : failures from < failures to → HasServeFailed takes failures from to
@@ -135,10 +144,15 @@ HasNotOpened options (fault.Metrics cause) = IsRefusedMetrics options cause
 HasNotOpened options fault.Memory = Unit {0}
 HasNotOpened options _ = ⊥
 
+-- the options name what to run on, and that was to run
+pub record IsToRun (options : ServeOptions) : Type 0 where
+  pub plan : HasPlan options
+  pub runs : options.only_check ≡ false
+
 -- `ready` went out and nothing else
 pub record IsOnlyReady {O : Type 0} (takes : O → List ℕ → O → Type 0) (options : ServeOptions)
     (from to : O) : Type 0 where
-  pub plan : HasPlan options
+  pub plan : IsToRun options
   pub ready : takes from ready_text to
 
 -- why the totals were not written: the outlet failed, or memory ran out, and then nothing was
@@ -165,13 +179,14 @@ module _ {O : Type 0} (takes : O → List ℕ → O → Type 0) (failures : O �
 
   -- why it fails: the options name nothing to run on, or the system refuses an address, and then
   -- nothing was written; the outlet failed; accepting failed after `ready`; or memory ran out, and
-  -- then `ready` went out or nothing
+  -- then `ready` went out or nothing. A check alone fails as long as there is nothing to run on, or
+  -- by the outlet or by memory.
   abbrev pub ServeFails : ServeOptions → O → O → Fault → Type 0
   ServeFails options from to (fault.Listen cause) =
-      (NoPlan options (fault.Listen cause) ⊎ (HasPlan options × IsAddressRefused cause))
+      (NoPlan options (fault.Listen cause) ⊎ (IsToRun options × IsAddressRefused cause))
       × (to ≡ from)
   ServeFails options from to (fault.Metrics cause) =
-      (NoPlan options (fault.Metrics cause) ⊎ (HasPlan options × IsRefusedMetrics options cause))
+      (NoPlan options (fault.Metrics cause) ⊎ (IsToRun options × IsRefusedMetrics options cause))
       × (to ≡ from)
   ServeFails options from to fault.Write = failures from < failures to
   ServeFails options from to fault.Accept = IsOnlyReady takes options from to

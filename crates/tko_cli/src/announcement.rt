@@ -1,8 +1,8 @@
-//! What `serve` prints once clients can connect.
-ghost use Rattle.std.specs.Prelude.{◌≡◌};
-ghost use Rattle.tko_cli.specs.Announcements.{HasPrinted, HasNotPrinted};
+//! What `serve` prints once clients can connect, and what a check prints in its place.
+ghost use Rattle.std.specs.Prelude.{◌≡◌, ◌<◌, IfErr, OnOk};
+ghost use Rattle.tko_cli.specs.Announcements.{HasPrinted, HasNotPrinted, valid_text};
 
-use tko_commands::write_text;
+use tko_commands::{Fault, write_text};
 use tko_io::{IoRuntime, Outlet};
 use tko_server::{Announce, AnnounceFault, FirstAsks};
 
@@ -23,6 +23,16 @@ impl<O: Outlet> Announce for Announcement<'_, O> {
             Err(_) => Err(AnnounceFault),
         }
     }
+}
+
+/// Prints that a check found no fault.
+pub(crate) fn print_valid<R: IoRuntime, O: Outlet>(rt: &R, output: &mut O) -> Result<(), Fault>
+    ensures ok { OnOk result (O.takes output.old valid_text output.new) }
+    ensures err { IfErr result (λ fault. (fault ≡ Fault.Write)
+        × (O.failures output.old < O.failures output.new)) }
+{
+    write_text(rt, output, b"valid\n")?;
+    Ok(())
 }
 
 /// Does nothing. Proofs know what was written to an output that an announcement had only where the

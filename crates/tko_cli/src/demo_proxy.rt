@@ -120,6 +120,7 @@ fn serve_options(
         tries: 8,
         log: String::from_str(alloc, log)?,
         metrics: None,
+        only_check: false,
     })
 }
 

@@ -2,7 +2,7 @@
 ghost use Rattle.std.specs.Prelude.{◌≡◌, ◌<◌, ◌≤◌, IfErr, OnOk, map, string_bytes};
 ghost use Rattle.tko_cli.specs.Endings.{HasCommandFailed, HasNotServed, HasNotesFor, HasServedFor, IsCommandDone, IsFaultTold, ends};
 ghost use Rattle.tko_cli.specs.Notices.{HasServerNotes};
-ghost use Rattle.tko_cli.specs.Serving.{HasServedToEnd, ServeFails};
+ghost use Rattle.tko_cli.specs.Serving.{HasServedOrChecked, ServeFails};
 
 use crate::demo::run_demo;
 use crate::serving::serve;
@@ -99,7 +99,7 @@ fn serve_loaded<
     F: Outlet,
 >(rt: &R, alloc: Global, options: &ServeOptions, output: &mut O, faults: &mut F) -> u8
     ensures status { result ≤ 1 }
-    ensures done { result ≡ 0 → HasServedToEnd O.takes options.now output.old output.new }
+    ensures done { result ≡ 0 → HasServedOrChecked O.takes options.now output.old output.new }
     ensures noted { result ≡ 0 → HasServerNotes F.takes F.failures options.now
         faults.old faults.new }
     ensures fault { result ≡ 1 → IsFaultTold O.takes O.failures F.Outlet

@@ -2,12 +2,12 @@
 ghost use Rattle.std.specs.Prelude.{◌≡◌, IfErr, IfOk, OnErr, OnOk};
 ghost use Rattle.tko_cli.specs.Announcements.{IsReadyWritten};
 ghost use Rattle.tko_cli.specs.Notices.{HasNotices, HasServerNotes, HasServerWarnings};
-ghost use Rattle.tko_cli.specs.Serving.{HasServedToEnd, HasTotals, IsNamed, IsOfOptions, IsRunnable, IsSilentOrNoted, PreparedFails, RunFails, ServeFails, TotalsFail, fault_of_server};
+ghost use Rattle.tko_cli.specs.Serving.{HasServedOrChecked, HasTotals, IsNamed, IsOfOptions, IsRunnable, IsSilentOrNoted, PreparedFails, RunFails, ServeFails, TotalsFail, fault_of_server};
 ghost use Rattle.tko_cli.specs.Totals.{totals_text};
 ghost use Rattle.tko_server.specs.Closing.{HasServerEnded};
 ghost use Rattle.tko_server.specs.ServerRuns.{IsServerRun};
 
-use crate::announcement::{Announcement, give_back};
+use crate::announcement::{Announcement, give_back, print_valid};
 use crate::notice::{Notice, write_notice, write_notice_if, write_warnings};
 use crate::odd_options::write_odd_options;
 use crate::open_files::has_no_memory_limit;
@@ -28,7 +28,7 @@ use tko_server::{Announce, Ended, ServerRun, ServerRunFault, WorkerKind, WorkerR
 /// `ready` is printed once clients can connect: when each worker has asked for its first one.
 /// Before it listens come the warnings on the configuration and on the addresses of the options,
 /// before `ready` a notice of what the server does with its descriptors, and before the totals
-/// notices say what the workers met.
+/// notices say what the workers met. With `--check` it ends before it listens, and prints `valid`.
 pub(crate) fn serve<
     R: IoRuntime<Listener = TcpListener>
         + Threads
@@ -47,7 +47,7 @@ pub(crate) fn serve<
     output: &mut O,
     faults: &mut F,
 ) -> Result<(), Fault>
-    ensures ok { OnOk result (HasServedToEnd O.takes options.now output.old output.new) }
+    ensures ok { OnOk result (HasServedOrChecked O.takes options.now output.old output.new) }
     ensures err { IfErr result (ServeFails O.takes O.failures options.now output.old output.new) }
     ensures noted { OnOk result (HasServerNotes F.takes F.failures options.now
         faults.old faults.new) }
@@ -58,6 +58,9 @@ pub(crate) fn serve<
 {
     let server = named_server(rt, alloc, options)?;
     write_server_warnings(rt, alloc, faults, options);
+    if options.only_check {
+        return print_valid(rt, output);
+    }
     run_named(rt, alloc, options, server, output, faults)
 }
 

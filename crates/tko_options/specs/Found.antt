@@ -116,3 +116,4 @@ pub record AreFound (found : Found) (options : ServeOptions) : Type 0 where
   pub tries : IsNumberAt 32 found (codes "tries") options.tries
   pub log : IsTextAt found (codes "log") (string_bytes options.log)
   pub metrics : option_map string_bytes options.metrics ≡ first_value found (codes "metrics")
+  pub only_check : IsSwitchAt found (codes "check") options.only_check

@@ -125,8 +125,15 @@ with_times app =
 abbrev pub with_reports : App → App
 with_reports app = with_rule (with_rule app log_option) metrics_option
 
-abbrev pub serve_command : App
-serve_command =
+-- `--check`, a switch
+abbrev pub only_check_option : Rule
+only_check_option = switch_option (codes "check")
+
+-- with the options of a server that runs
+abbrev pub with_server_options : App → App
+with_server_options app =
     with_reports
-    (with_tracker (with_times (with_patience (with_clients
-    (with_address_options (new_app (codes "serve")))))))
+    (with_tracker (with_times (with_patience (with_clients (with_address_options app)))))
+
+abbrev pub serve_command : App
+serve_command = with_rule (with_server_options (new_app (codes "serve"))) only_check_option

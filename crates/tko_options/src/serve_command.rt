@@ -2,9 +2,9 @@
 ghost use Rattle.std.specs.Prelude.{◌≡◌, false, IfOk, codes};
 ghost use Rattle.clap.specs.Words.{App, rule_of};
 ghost use Rattle.tko_options.specs.CommandLine.{IsOption, ReadsAs, config_file_option, number_option, required_config};
-ghost use Rattle.tko_options.specs.ServeCommand.{default_timeout, from_one, limit_option, listen_option, log_option, metrics_option, serve_command, with_address_options, with_reports, with_times};
+ghost use Rattle.tko_options.specs.ServeCommand.{default_timeout, from_one, limit_option, listen_option, log_option, metrics_option, only_check_option, serve_command, with_address_options, with_reports, with_server_options, with_times};
 
-use crate::command_line::{number, text, with_tracker};
+use crate::command_line::{number, switch, text, with_tracker};
 use crate::serve_clients::{with_clients, with_patience};
 use clap::builder::ValueParser;
 use clap::{Arg, Command};
@@ -26,9 +26,10 @@ Times are in milliseconds.
 
 Example:
   tkoproxy serve --listen 127.0.0.1:11300 --config-file pools.json
+  tkoproxy serve --check --listen 127.0.0.1:11300 --config-file pools.json
 
 Exit status:
-  0  the last of --connections has ended
+  0  the last of --connections has ended, or --check has found no fault
   1  a fault, with a line `fault: ..` on standard error
   2  the command line is invalid";
 
@@ -38,7 +39,15 @@ pub(crate) fn serve<'a>(alloc: Global) -> Result<Command<'a>, AllocError>
     let serve = Command::new(alloc, "serve")
         .about("Serves clients over memcached servers")
         .after_help(SERVE_HELP);
-    let serve = with_ends(alloc, serve)?;
+    with_server_options(alloc, serve)?.arg(only_check(alloc))
+}
+
+/// With the options of a server that runs.
+fn with_server_options<'a>(alloc: Global, command: Command<'a>) -> Result<Command<'a>, AllocError>
+    ensures { (app : App) → ReadsAs app command.entry
+        → IfOk result (ReadsAs (with_server_options app)) }
+{
+    let serve = with_ends(alloc, command)?;
     let serve = with_clients(alloc, serve)?;
     let serve = with_patience(alloc, serve)?;
     let serve = with_times(alloc, serve)?;
@@ -93,6 +102,16 @@ fn metrics<'a>(alloc: Global) -> Arg<'a>
 {
     text(alloc, "metrics", "ADDRESS").help(
         "Address that answers HTTP `GET /metrics` for Prometheus, <host>:<port>, as 127.0.0.1:9311",
+    )
+}
+
+/// `--check`, a switch.
+fn only_check<'a>(alloc: Global) -> Arg<'a>
+    ensures rule { rule_of result ≡ only_check_option }
+    ensures local { result.global ≡ false }
+{
+    switch(alloc, "check").help(
+        "Reads the configuration and all options, prints what it would before it listens, and ends",
     )
 }
 

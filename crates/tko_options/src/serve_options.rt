@@ -54,6 +54,8 @@ pub struct ServeOptions {
     pub log: String,
     /// The address at which it answers for its metrics.
     pub metrics: Option<String>,
+    /// Whether it ends before it listens, once its configuration and its options are read.
+    pub only_check: bool,
 }
 
 impl ServeOptions {
@@ -106,6 +108,7 @@ impl ServeOptions {
             tries: number_of(found, "tries"),
             log: text_of(alloc, found, "log")?,
             metrics: optional_text(alloc, found, "metrics")?,
+            only_check: switch_of(found, "check"),
         })
     }
 
