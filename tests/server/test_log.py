@@ -113,6 +113,16 @@ class Log(ServerTest):
             self.assertEqual(client.ask(b"get a\r\n"), b"SERVER_ERROR no server\r\n")
         self.assertEqual(log_of(proxy), [])
 
+    def test_of_a_name_the_log_has_the_address_that_was_bound(self):
+        port = free_port()
+        words = serve_words(port, configuration(only=[self.closed()]), {"threads": 1})
+        words[words.index(f"{HOST}:{port}")] = f"localhost:{port}"
+        process = start(words, stdout=subprocess.DEVNULL, stderr=subprocess.PIPE)
+        self.addCleanup(process.stderr.close)
+        self.addCleanup(stop, process)
+        told = next(line for line in process.stderr if b" listening " in line)
+        self.assertIn(told[25:], [f"listening address={host}:{port}\n".encode() for host in (HOST, "[::1]")])
+
     def test_a_log_that_nobody_reads_stops_no_worker(self):
         port, (reader, writer) = free_port(), os.pipe()
         self.addCleanup(os.close, reader)

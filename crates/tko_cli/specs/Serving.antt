@@ -1,4 +1,6 @@
 -- What `serve` writes, and why it fails.
+use Rattle.std.specs.Net.Text.{socket_text}
+use Rattle.std.specs.declared.net.socket_addr.SocketAddr.{SocketAddr}
 use Rattle.std.specs.Prelude.{◌≡◌, ◌<◌, ◌⊎◌, ℕ, true, false, IfSome, List, Option, bytes_eq, codes, is_some, string_bytes}
 use Rattle.tko_cli.specs.Announcements.{ready_text, valid_text}
 use Rattle.tko_cli.specs.Planned.{IsServePlan, IsServerOf, NoPlan}
@@ -14,6 +16,7 @@ use Rattle.tko_model.specs.Ranges.{IsWithinRanges}
 use Rattle.tko_server.specs.Beside.{IsLogOf, IsMeterOf}
 use Rattle.tko_server.specs.Closing.{HasServerEnded}
 use Rattle.tko_server.specs.Runs.{tracker_settings}
+use Rattle.tko_server.specs.declared.logging.Logging.{Logging}
 use Rattle.tko_server.specs.declared.run_fault.ServerRunFault.{ServerRunFault}
 use Rattle.tko_server.specs.declared.run_fault.ServerRunFault.TheVariants as server_fault
 use Rattle.tko_server.specs.declared.running.Ended.{Ended}
@@ -32,12 +35,18 @@ pub record IsNamed (options : ServeOptions) (server : Server) : Type 0 where
   pub open_files : Option ℕ
   pub of_plan : IsServerOf plan options open_files server
 
+-- the log of this server, with the text of an address at which it will listen: the one that the
+-- system reports, of which nothing else is known
+pub record IsLogAt (server : Server) (logging : Logging) : Type 0 where
+  pub address : SocketAddr
+  pub log : IsLogOf (socket_text address) server logging
+
 -- how the server serves, and what is to run beside it: an event log and metrics, each exactly where
 -- the options ask for it, and of this server
 pub record HasBeside (options : ServeOptions) (prepared : Prepared) : Type 0 where
   pub mode : prepared.mode ≡ options.mode
   pub logs : is_some prepared.logging ≡ bytes_eq (string_bytes options.log) (codes "stderr")
-  pub log_of : IfSome prepared.logging (IsLogOf (string_bytes options.listen) prepared.server)
+  pub log_of : IfSome prepared.logging (IsLogAt prepared.server)
   pub meters : is_some prepared.metering ≡ is_some options.metrics
   pub meter_of : IfSome prepared.metering (IsMeterOf prepared.server)
 

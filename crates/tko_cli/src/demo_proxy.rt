@@ -59,7 +59,7 @@ impl DemoProxy {
             return Err(DemoFault::Port);
         };
         let options = serve_options(alloc, demo, address, near, far)?;
-        let Ok(prepared) = prepare_at(rt, alloc, &options, listener) else {
+        let Ok(prepared) = prepare_at(rt, alloc, &options, listener, address) else {
             return Err(DemoFault::Memory);
         };
         let runtime = *rt;
@@ -131,17 +131,19 @@ fn config_of(alloc: Global, near: SocketAddr, far: SocketAddr) -> Result<String,
     format!(in alloc; "{{\"pools\": {{{near}, {far}}}, \"route\": {ROUTE}}}")
 }
 
-/// What `serve` prepares for these options, with a listener that is there already.
+/// What `serve` prepares for these options, with a listener that is there already, and the address
+/// that it reports.
 fn prepare_at<R: IoRuntime + Files<File = File>>(
     rt: &R,
     alloc: Global,
     options: &ServeOptions,
     listener: TcpListener,
+    address: SocketAddr,
 ) -> Result<Prepared, Fault>
     ensures { IfOk result (λ prepared. IsNamed options.now prepared.server) }
 {
     let server = named_server(rt, alloc, options)?;
-    let logging = logging_of(rt, alloc, options, &server)?;
+    let logging = logging_of(rt, alloc, options, address, &server)?;
     Ok(Prepared {
         mode: options.mode,
         server,

@@ -1,11 +1,13 @@
 //! A server that is ready to run, with what runs beside it.
 ghost use Rattle.std.specs.Prelude.{◌≡◌, IfErr, IfOk, IfSome, bytes_eq, codes, is_some, string_bytes};
+ghost use Rattle.std.specs.Net.Text.{socket_text};
 ghost use Rattle.tko_cli.specs.Serving.{HasBeside, HasNoListener, HasNoMetrics, HasNotOpened};
 ghost use Rattle.tko_server.specs.Beside.{IsLogOf, IsMeterOf};
 
 use std::alloc::{AllocError, Global};
 use std::fs::{File, Files};
-use std::net::TcpListener;
+use std::io;
+use std::net::{SocketAddr, TcpListener};
 use tko_commands::{Fault, ListenFault};
 use tko_io::IoRuntime;
 use tko_metrics::Process;
@@ -35,8 +37,8 @@ pub(crate) fn prepare<R: IoRuntime<Listener = TcpListener> + Files<File = File>>
     ensures beside { IfOk result (HasBeside options.now) }
     ensures err { IfErr result (HasNotOpened options.now) }
 {
-    let logging = logging_of(rt, alloc, options, &server)?;
-    let listener = listener_of(rt, alloc, options.listen.as_str())?;
+    let (listener, address) = listener_of(rt, alloc, options.listen.as_str())?;
+    let logging = logging_of(rt, alloc, options, address, &server)?;
     let metering = metering_of(rt, alloc, options, &server)?;
     Ok(Prepared {
         mode: options.mode,
@@ -47,49 +49,62 @@ pub(crate) fn prepare<R: IoRuntime<Listener = TcpListener> + Files<File = File>>
     })
 }
 
-/// A listener at this address, or what the system says against it.
+/// A listener at this address, with the one that it reports, or what the system says against it.
 fn listener_of<R: IoRuntime<Listener = TcpListener>>(
     rt: &R,
     alloc: Global,
     address: &str,
-) -> Result<TcpListener, Fault>
+) -> Result<(TcpListener, SocketAddr), Fault>
     ensures { IfErr result HasNoListener }
 {
     match bound(rt, alloc, address)? {
-        Ok(listener) => Ok(listener),
+        Ok(bound) => Ok(bound),
         Err(words) => Err(Fault::Listen(ListenFault::System(words))),
     }
 }
 
-/// A listener at this address, or what the system says against it; or memory ran out for that.
+/// A listener at this address, with the one that it reports, or what the system says against it; or
+/// memory ran out for that.
 fn bound<R: IoRuntime<Listener = TcpListener>>(
     rt: &R,
     alloc: Global,
     address: &str,
-) -> Result<Result<TcpListener, String>, AllocError> {
-    match TcpListener::bind(rt, address) {
-        Ok(listener) => Ok(Ok(listener)),
+) -> Result<Result<(TcpListener, SocketAddr), String>, AllocError> {
+    match bind(rt, address) {
+        Ok(bound) => Ok(Ok(bound)),
         Err(error) => Ok(Err(format!(in alloc; "{error}")?)),
     }
 }
 
-/// The event log of this server that the options ask for, if they do. Its lines go to the standard
-/// error of the runtime, and not to the outlet of the faults.
+/// A listener at one of the addresses that this text names, with the one that it reports.
+fn bind<R: IoRuntime<Listener = TcpListener>>(
+    rt: &R,
+    address: &str,
+) -> io::Result<(TcpListener, SocketAddr)> {
+    let listener = TcpListener::bind(rt, address)?;
+    let address = listener.local_addr()?;
+    Ok((listener, address))
+}
+
+/// The event log of this server, which listens at this address, that the options ask for, if they
+/// do. Its lines go to the standard error of the runtime, and not to the outlet of the faults.
 pub(crate) fn logging_of<R: IoRuntime>(
     rt: &R,
     alloc: Global,
     options: &ServeOptions,
+    address: SocketAddr,
     server: &tko_server::Options,
 ) -> Result<Option<Logging>, AllocError>
     ensures asked { IfOk result (λ logging.
         is_some logging ≡ bytes_eq (string_bytes options.now.log) (codes "stderr")) }
     ensures of { IfOk result (λ logging.
-        IfSome logging (IsLogOf (string_bytes options.now.listen) server.now)) }
+        IfSome logging (IsLogOf (socket_text address) server.now)) }
 {
     if !options.has_log() {
         return Ok(None);
     }
-    let logging = Logging::start(rt, alloc, options.listen.as_str(), server)?;
+    let listen = format!(in alloc; "{address}")?;
+    let logging = Logging::start(rt, alloc, listen.as_str(), server)?;
     Ok(Some(logging))
 }
 
@@ -108,7 +123,7 @@ fn metering_of<R: IoRuntime<Listener = TcpListener> + Files<File = File>>(
         return Ok(None);
     };
     match bound(rt, alloc, address.as_str())? {
-        Ok(listener) => Ok(Some(metering_at(rt, alloc, listener, server)?)),
+        Ok((listener, _)) => Ok(Some(metering_at(rt, alloc, listener, server)?)),
         Err(words) => Err(Fault::Metrics(ListenFault::System(words))),
     }
 }
