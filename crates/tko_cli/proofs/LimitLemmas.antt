@@ -1,5 +1,5 @@
 -- The limit of files in a text of lines.
-use Rattle.std.proofs.Common.{◌≡◌, ℕ, List, ◌∷◌, [], Option, Some, None, ap, length, arith, refl, ◌∙◌}
+use Rattle.std.proofs.Common.{◌≡◌, ℕ, List, ◌∷◌, [], Some, None, ap, length, arith, refl, ◌∙◌}
 use Rattle.tko_bytes.specs.Lines.{lines_of}
 use Rattle.tko_bytes.specs.Words.{words}
 use Rattle.tko_cli.specs.OpenFiles.{limit_in, limit_or, limit_told, told_in}

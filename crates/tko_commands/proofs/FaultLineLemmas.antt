@@ -2,7 +2,7 @@
 use Rattle.std.proofs.Common.{◌≡◌, ℕ, ◌<◌, List, refl, subst, IfErr, IsOk, OnErr, OnOk, Result, Ok, Err}
 use Rattle.tko_commands.specs.declared.fault.Fault.{Fault}
 use Rattle.tko_commands.specs.FaultLines.{IsReasonTold, IsFaultWritten, Written, Failed, HasFaultLine}
-use Rattle.tko_commands.specs.Reasons.{HasLineOf, LeftOut}
+use Rattle.tko_commands.specs.Reasons.{LeftOut}
 
 -- what holds where it is Ok
 pub on_ok : {T E : Type 0} {P Q : Type 0} (result : Result T E) → OnOk result P → (P → Q) → OnOk result Q

@@ -1,12 +1,11 @@
 -- A line that says why, before the line of a fault.
-use Rattle.std.proofs.Common.{◌≡◌, ℕ, ◌<◌, List, Err, IsSomeAnd, Ok, OnErr, OnOk, Option, Result, Some, subst, sym}
+use Rattle.std.proofs.Common.{◌≡◌, ℕ, ◌<◌, List, Err, IsSomeAnd, Ok, OnErr, OnOk, Option, Result, Some, refl, subst, sym}
 use Rattle.tko_explain.specs.Reasons.{IsReasonOf}
 use Rattle.tko_pools.specs.declared.fault.ConfigFault.{ConfigFault}
-use Rattle.tko_commands.specs.FaultLines.{IsFaultWritten, IsReasonTold}
+use Rattle.tko_commands.specs.FaultLines.{IsFaultWritten, IsReasonTold, IsToldAfter}
 use Rattle.tko_commands.specs.OutsideRanges.{IsRangeReason, range_line}
-use Rattle.tko_commands.specs.Reasons.{HasLineOf, Written, LeftOut, Failed, IsFileReason, IsListenReason, IsMetricsReason, IsReasonFor}
+use Rattle.tko_commands.specs.Reasons.{HasLineOf, Written, LeftOut, Failed, IsFileReason, IsReasonFor}
 use Rattle.tko_commands.specs.declared.fault.Fault.{Fault}
-use Rattle.tko_commands.specs.declared.listen_fault.ListenFault.{ListenFault}
 use Rattle.tko_commands.specs.declared.outside_range.OptionRange.{OptionRange}
 use Rattle.tko_commands.specs.declared.outside_range.OutsideRange.{OutsideRange}
 use Rattle.tko_commands.specs.declared.fault.Fault.TheVariants as fault
@@ -56,21 +55,17 @@ file_reason takes failures path old new it =
     line_as takes failures (IsFileReason path) (IsReasonFor fault.ConfigFile) old new
     (λ line good. (path, good)) it
 
--- why nothing can listen
-pub listen_reason : {O : Type 0} (takes : O → List ℕ → O → Type 0) (failures : O → ℕ) (cause : ListenFault)
-    (address : List ℕ) (old new : O) → HasLineOf takes failures (IsListenReason cause address) old new
-    → HasLineOf takes failures (IsReasonFor (fault.Listen cause)) old new
-listen_reason takes failures cause address old new it =
-    line_as takes failures (IsListenReason cause address) (IsReasonFor (fault.Listen cause)) old new
-    (λ line good. (address, good)) it
-
--- the same of the address of the metrics
-pub metrics_reason : {O : Type 0} (takes : O → List ℕ → O → Type 0) (failures : O → ℕ) (cause : ListenFault)
-    (address : List ℕ) (old new : O) → HasLineOf takes failures (IsMetricsReason cause address) old new
-    → HasLineOf takes failures (IsReasonFor (fault.Metrics cause)) old new
-metrics_reason takes failures cause address old new it =
-    line_as takes failures (IsMetricsReason cause address) (IsReasonFor (fault.Metrics cause)) old new
-    (λ line good. (address, good)) it
+-- the reason of an address, and then the fault
+pub told_after : {F : Type 0} (notes : F → List ℕ → F → Type 0) (faults : F → ℕ) (why : List ℕ → Type 0) (reason : Fault)
+    (old new : F) → ((line : List ℕ) → why line → IsReasonFor reason line) → IsToldAfter notes faults why reason old new
+    → IsReasonTold notes faults (λ it. it ≡ reason) old new
+told_after notes faults why reason old new next told = record {
+  middle = told.middle;
+  fault = reason;
+  known = refl;
+  reason = line_as notes faults why (IsReasonFor reason) old told.middle next told.reason;
+  line = told.line;
+}
 
 -- the reason and then the fault
 pub told_with : {F : Type 0} (notes : F → List ℕ → F → Type 0) (faults : F → ℕ) (came : Fault → Type 0)

@@ -1,5 +1,5 @@
 -- What is written for a fault.
-use Rattle.std.specs.Prelude.{ℕ, ◌≡◌, ◌<◌, ◌⊎◌, List, ◌++◌, codes}
+use Rattle.std.specs.Prelude.{ℕ, ◌<◌, ◌⊎◌, List, ◌++◌, codes}
 use Rattle.tko_commands.specs.declared.fault.Fault.{Fault}
 use Rattle.tko_commands.specs.declared.fault.Fault.TheVariants as fault
 use Rattle.tko_commands.specs.Faults.{fault_line}
@@ -29,4 +29,12 @@ pub record IsReasonTold {O : Type 0} (takes : O → List ℕ → O → Type 0) (
   pub fault : Fault
   pub known : came fault
   pub reason : HasLineOf takes failures (IsReasonFor fault) old middle
+  pub line : IsFaultWritten takes failures fault middle new
+
+-- this fault came; a line of this kind may say why, and then the line of the fault was written, and
+-- nothing else
+pub record IsToldAfter {O : Type 0} (takes : O → List ℕ → O → Type 0) (failures : O → ℕ)
+    (why : List ℕ → Type 0) (fault : Fault) (old new : O) : Type 0 where
+  pub middle : O
+  pub reason : HasLineOf takes failures why old middle
   pub line : IsFaultWritten takes failures fault middle new

@@ -1,7 +1,6 @@
 -- The line that says why in words, before the line of a fault.
 use Rattle.std.specs.Prelude.{◌≡◌, ◌<◌, ℕ, List, ◌++◌, None, codes, is_some, string_bytes, true}
 use Rattle.tko_explain.specs.Reasons.{IsReasonOf}
-use Rattle.tko_pools.specs.declared.fault.ConfigFault.{ConfigFault}
 use Rattle.tko_commands.specs.Faults.{listen_words}
 use Rattle.tko_commands.specs.OutsideRanges.{IsDelaysReason, IsRangeReason}
 use Rattle.tko_commands.specs.declared.fault.Fault.{Fault}
@@ -23,15 +22,18 @@ IsKeysReason unread line =
     line ≡ codes "keys: " ++ string_bytes unread.path ++ codes ": " ++ string_bytes unread.words
     ++ codes "\n"
 
--- nothing can listen at an address, for this cause
+-- nothing can listen at an address, for this cause, which the line says after this word
+abbrev pub IsAddressReason : List ℕ → ListenFault → List ℕ → List ℕ → Type 0
+IsAddressReason word cause address line =
+    line ≡ word ++ address ++ codes ": " ++ listen_words cause ++ codes "\n"
+
+-- nothing can listen at the address that clients are to connect to, for this cause
 abbrev pub IsListenReason : ListenFault → List ℕ → List ℕ → Type 0
-IsListenReason cause address line =
-    line ≡ codes "listen: " ++ address ++ codes ": " ++ listen_words cause ++ codes "\n"
+IsListenReason cause address line = IsAddressReason (codes "listen: ") cause address line
 
 -- the same of the address of the metrics
 abbrev pub IsMetricsReason : ListenFault → List ℕ → List ℕ → Type 0
-IsMetricsReason cause address line =
-    line ≡ codes "metrics: " ++ address ++ codes ": " ++ listen_words cause ++ codes "\n"
+IsMetricsReason cause address line = IsAddressReason (codes "metrics: ") cause address line
 
 -- a line that says why a command ends with a fault: of which text the configuration is to be, which
 -- option is outside which range, how the delays of probes have to be, which file cannot be read, or

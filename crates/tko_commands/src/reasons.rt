@@ -2,7 +2,7 @@
 ghost use Rattle.std.specs.Prelude.{◌++◌, ◌≡◌, IfOk, codes};
 ghost use Rattle.tko_explain.specs.Reasons.{IsReasonOf};
 ghost use Rattle.tko_commands.specs.OutsideRanges.{IsDelaysReason, IsRangeReason};
-ghost use Rattle.tko_commands.specs.Reasons.{HasLineOf, IsKeysReason, IsListenReason, IsMetricsReason};
+ghost use Rattle.tko_commands.specs.Reasons.{HasLineOf, IsAddressReason, IsKeysReason};
 
 use crate::outside_range::range_line;
 use crate::refused_delays::delays_line;
@@ -79,36 +79,20 @@ pub(crate) fn write_keys_reason<R: IoRuntime, F: Outlet>(
     }
 }
 
-/// Writes why nothing can listen at an address. The line is left out where memory runs out for it,
-/// and a failure to write it is not reported.
-pub(crate) fn write_listen_reason<R: IoRuntime, F: Outlet>(
-    rt: &R,
-    alloc: Global,
-    faults: &mut F,
-    address: &str,
-    cause: &ListenFault,
-)
-    ensures { HasLineOf F.takes F.failures (IsListenReason cause.now address.now)
-        faults.old faults.new }
-{
-    if let Ok(line) = reason_line(alloc, b"listen: ", address, cause.words()) {
-        let _ = write_text(rt, faults, &line);
-    }
-}
-
-/// Writes why nothing can listen at the address of the metrics. The line is left out where memory
+/// Writes why nothing can listen at an address, after this word. The line is left out where memory
 /// runs out for it, and a failure to write it is not reported.
-pub(crate) fn write_metrics_reason<R: IoRuntime, F: Outlet>(
+pub(crate) fn write_address_reason<R: IoRuntime, F: Outlet>(
     rt: &R,
     alloc: Global,
     faults: &mut F,
+    word: &[u8],
     address: &str,
     cause: &ListenFault,
 )
-    ensures { HasLineOf F.takes F.failures (IsMetricsReason cause.now address.now)
+    ensures { HasLineOf F.takes F.failures (IsAddressReason word.now cause.now address.now)
         faults.old faults.new }
 {
-    if let Ok(line) = reason_line(alloc, b"metrics: ", address, cause.words()) {
+    if let Ok(line) = reason_line(alloc, word, address, cause.words()) {
         let _ = write_text(rt, faults, &line);
     }
 }

@@ -1,12 +1,13 @@
 //! Faults on standard error: the line of each, and before it the line that says why, where there is
 //! one.
 ghost use Rattle.std.specs.Prelude.{◌≡◌, ◌<◌, OnOk, OnErr};
-ghost use Rattle.tko_commands.specs.FaultLines.{HasFaultLine, IsFaultWritten, IsReasonTold};
+ghost use Rattle.tko_commands.specs.FaultLines.{HasFaultLine, IsFaultWritten, IsReasonTold, IsToldAfter};
+ghost use Rattle.tko_commands.specs.Reasons.{IsListenReason, IsMetricsReason};
 
 use crate::key_lists::against_of;
 use crate::reasons::{
-    write_config_reason, write_delays_reason, write_keys_reason, write_listen_reason,
-    write_metrics_reason, write_range_reason,
+    write_address_reason, write_config_reason, write_delays_reason, write_keys_reason,
+    write_range_reason,
 };
 use crate::writing::{WriteFault, write_text};
 use crate::{Fault, ListenFault, OutsideRange, RefusedDelays, UnreadKeys};
@@ -106,10 +107,10 @@ pub fn refuse_listen<R: IoRuntime, F: Outlet>(
     cause: ListenFault,
 ) -> u8
     ensures status { result ≡ 1 }
-    ensures fault { IsReasonTold F.takes F.failures (λ fault. fault ≡ Fault.Listen cause)
-        faults.old faults.new }
+    ensures fault { IsToldAfter F.takes F.failures (IsListenReason cause address.now)
+        (Fault.Listen cause) faults.old faults.new }
 {
-    write_listen_reason(rt, alloc, faults, address, &cause);
+    write_address_reason(rt, alloc, faults, b"listen: ", address, &cause);
     fail(rt, alloc, faults, Fault::Listen(cause))
 }
 
@@ -123,10 +124,10 @@ pub fn refuse_metrics<R: IoRuntime, F: Outlet>(
     cause: ListenFault,
 ) -> u8
     ensures status { result ≡ 1 }
-    ensures fault { IsReasonTold F.takes F.failures (λ fault. fault ≡ Fault.Metrics cause)
-        faults.old faults.new }
+    ensures fault { IsToldAfter F.takes F.failures (IsMetricsReason cause address.now)
+        (Fault.Metrics cause) faults.old faults.new }
 {
-    write_metrics_reason(rt, alloc, faults, address, &cause);
+    write_address_reason(rt, alloc, faults, b"metrics: ", address, &cause);
     fail(rt, alloc, faults, Fault::Metrics(cause))
 }
 

@@ -2,5 +2,5 @@
 
 /// The sum of the sources, which `release/hash` prints, and the kit that built them.
 pub(crate) const BUILD: &str =
-    "sources abd30ae4914a3cf56960ae2bdc9b813660990f80eae7aaecb961a26f48b11ef9, \
+    "sources 7a2ad4799f9afd7f8e4c642eb690b65b0f8b17ab98153a051385a340a309dc6f, \
     rattle-kit-13f logic dac8208d650f15bf";

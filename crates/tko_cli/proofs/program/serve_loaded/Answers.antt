@@ -1,5 +1,6 @@
 use Rattle.std.proofs.Common.{◌≡◌, Err, rules}
 use Rattle.tko_commands.proofs.FaultLineLemmas.{of_err}
+use Rattle.tko_commands.proofs.ReasonLemmas.{told_after}
 use Rattle.tko_commands.specs.declared.fault.Fault.TheVariants as fault
 use Rattle.tko_cli.specs.Notices.{HasServerNotes}
 use Rattle.tko_cli.specs.Serving.{IsOfOptions, ServeFails}
@@ -61,7 +62,8 @@ returns-in-Err-Listen-clause-fault g c =
     c.args.output.now c.serve.new.output c.args.faults.now c.serve.new.faults c.refuse_listen.new.faults
     failed failed.1 (on_err_of c.serve.result cause is c.serve.ensures.told)
     (of_err (λ it. IsOfOptions it → c.serve.new.faults ≡ c.args.faults.now) c.serve.result cause is c.serve.ensures.refused)
-    c.refuse_listen.ensures.fault
+    (told_after g.F.Outlet.takes g.F.Outlet.failures _ cause
+    c.serve.new.faults c.refuse_listen.new.faults (λ line is. (_, is)) c.refuse_listen.ensures.fault)
 
 pub returns-in-Err-Metrics-clause-fault : goal.returns-in-Err-Metrics-clause-fault
 returns-in-Err-Metrics-clause-fault g c =
@@ -74,4 +76,5 @@ returns-in-Err-Metrics-clause-fault g c =
     c.args.output.now c.serve.new.output c.args.faults.now c.serve.new.faults c.refuse_metrics.new.faults
     failed failed.1 (on_err_of c.serve.result cause is c.serve.ensures.told)
     (of_err (λ it. IsOfOptions it → c.serve.new.faults ≡ c.args.faults.now) c.serve.result cause is c.serve.ensures.refused)
-    c.refuse_metrics.ensures.fault
+    (told_after g.F.Outlet.takes g.F.Outlet.failures _ cause
+    c.serve.new.faults c.refuse_metrics.new.faults (λ line is. (_, is)) c.refuse_metrics.ensures.fault)
