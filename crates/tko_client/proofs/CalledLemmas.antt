@@ -1,7 +1,6 @@
 -- What one call is to a client: its session went on, or a call was made for its keys.
-use Rattle.std.proofs.Common.{◌≡◌, ℕ, List, [], ◌∷◌, ◌++◌, Some, None, refl, sym, ap, subst, ◌∙◌}
-use Rattle.tko_model.specs.Records.{Gains}
-use Rattle.tko_model.proofs.RecordLemmas.{gains_append, gains_none, gains_one}
+use Rattle.std.proofs.Common.{◌≡◌, ◌≢◌, ℕ, List, [], Some, None, refl, sym, ap, subst, ◌∙◌}
+use Rattle.tko_pools.specs.Configs.{Configuration}
 use Rattle.tko_reply.specs.Ghosts.{PartsGhosts}
 use Rattle.tko_reply.specs.Interactions.{Interaction}
 use Rattle.tko_reply.specs.declared.parts.Parts.{Parts}
@@ -15,31 +14,27 @@ use Rattle.tko_client.specs.declared.calls.Went.{Went}
 use Rattle.tko_client.specs.Answerings.{IsAnsweringReady, IsClientIdle, awaited_by_client}
 use Rattle.tko_client.specs.Answerings.{awaited_with, client_at}
 use Rattle.tko_client.specs.Calls.{IsCalled}
-use Rattle.tko_client.specs.Clients.{ActsWithoutBytes, ClientOver, HasGone}
 use Rattle.tko_client.specs.Keys.{HasKeyCall}
 use Rattle.tko_client.specs.Steps.{HasStayed, IsLost, IsSessionLeft, IsStepped, StandsAfter}
 use Rattle.tko_client.specs.Steps.{phase_of, server_asked_in}
 use Rattle.tko_client.specs.declared.calls.Went.TheVariants as went
-use Rattle.tko_client.proofs.AskLemmas.{asked_some}
+use Rattle.tko_client.specs.Staying.{no_change}
+use Rattle.tko_client.specs.Shares.{ActsWithoutBytes, ClientOver, IsCallWithCost, acted, call_cost}
+use Rattle.tko_client.specs.Shares.{rested}
+use Rattle.tko_client.proofs.AskLemmas.{asked_some, same_asking}
 use Rattle.tko_client.proofs.SessionStandsLemmas.{between_ready, goes_none, idle_none, session_asks}
 use Rattle.tko_client.proofs.SessionStandsLemmas.{session_left, short_left}
 use Rattle.tko_client.proofs.KeysStandLemmas.{handed_at, keys_left, keys_phase}
 
 module _ {H T C : Type 0} (ghosts : PartsGhosts H (List ℕ) T C) where
-  -- nothing was done; or one act
-  pub gone_none : (at : ClientOver H T C) → HasGone ghosts at at
-  gone_none at = record { calls = []; gains = gains_none at }
-
-  pub gone_one : {old new : ClientOver H T C} (done : List Interaction)
-      → ActsWithoutBytes ghosts old.1.config old done new → HasGone ghosts old new
-  gone_one done does = record { calls = done ∷ []; gains = gains_one does }
-
-  pub gone_on : {old mid new : ClientOver H T C} → mid.1.config ≡ old.1.config
-      → HasGone ghosts old mid → HasGone ghosts mid new → HasGone ghosts old new
-  gone_on {old} {mid} {new} config first second = record {
-    calls = first.calls ++ second.calls;
-    gains = gains_append first.gains
-        (subst (λ c. Gains (ActsWithoutBytes ghosts c) mid second.calls new) config second.gains);
+  -- an act, with what its call cost
+  pub with_cost : {old new : ClientOver H T C} (config : Configuration) → old.1.config ≡ config
+      → (done : List Interaction) → ActsWithoutBytes ghosts old.1.config old done new
+      → IsCallWithCost ghosts config old
+      (record { done = done; cost = call_cost old.0.session new.0.session }) new
+  with_cost {old} {new} config same done act = record {
+    act = subst (λ c. ActsWithoutBytes ghosts c old done new) same act;
+    cost = refl;
   }
 
 module _ {H T C : Type 0} (ghosts : PartsGhosts H (List ℕ) T C) (servers : H → ℕ) where
@@ -52,7 +47,7 @@ module _ {H T C : Type 0} (ghosts : PartsGhosts H (List ℕ) T C) (servers : H �
   session_called came old new parts after idle same step stands left =
       let none = idle_none old idle in
       let without : new.keys ≡ None = ap (λ (it : Answering). it.keys) same ∙ none.0 in record {
-        gone = gone_one ghosts step.done (
+        gone = acted step.done (
           act.stepped step.done refl refl step.call (ap (client_at (phase_of came)) same),
           step.gains,
         );
@@ -69,7 +64,7 @@ module _ {H T C : Type 0} (ghosts : PartsGhosts H (List ℕ) T C) (servers : H �
   session_short old new parts after idle same lost stays =
       let none = idle_none old idle in
       let without : new.keys ≡ None = ap (λ (it : Answering). it.keys) same ∙ none.0 in record {
-        gone = gone_one ghosts lost.done
+        gone = acted lost.done
             (act.lost lost.done refl refl lost.loss (ap (client_at Short) same), lost.gains);
         asks = session_asks old new None none.0 (goes_none old.session.work none.1) without
             (ap awaited_in lost.between);
@@ -91,7 +86,7 @@ module _ {H T C : Type 0} (ghosts : PartsGhosts H (List ℕ) T C) (servers : H �
       subst (λ k. IsAsking (server_asked_in came) (awaited_with k old.session.work)
       (awaited_servers now))
       (sym are) call.asks in record {
-        gone = gone_one ghosts call.done (
+        gone = acted call.done (
           act.keyed call.done keys now has call.act.0 refl
               (ap (λ p. client_at p (record old { keys = Some now }))
               (keys_phase came call.left.goes)),
@@ -103,3 +98,21 @@ module _ {H T C : Type 0} (ghosts : PartsGhosts H (List ℕ) T C) (servers : H �
             (subst (λ a. IsAsking a (awaited_servers keys) (awaited_servers now)) is
             call.asks)) stays;
       }
+
+  -- requests for keys are under way, and nothing can be done before something comes for one of them
+  pub waits_called : (at : Answering) (keys : KeysState) (parts : Parts H (List ℕ) T C)
+      → IsAnsweringReady parts.config at → at.keys ≡ Some keys → awaited_servers keys ≢ []
+      → IsCalled ghosts servers went.Waits (at, parts) (record at { keys = Some keys }, parts)
+  waits_called at keys parts ready are waits =
+      subst (λ k. IsCalled ghosts servers went.Waits (at, parts) (record at { keys = k }, parts)) are
+      (record {
+        gone = rested refl;
+        asks = same_asking (awaited_by_client at) (awaited_by_client at) refl;
+        left = record {
+          request = tt;
+          stands = subst (λ k. awaited_with k at.session.work ≢ []) (sym are) waits;
+          reading = tt;
+          ready = record { session = ready.session; keys = ready.keys };
+          stays = no_change;
+        };
+      })

@@ -22,11 +22,11 @@ use Rattle.tko_client.specs.Handings.{AreKeysComplete, HasEndedKeys, HasHanded}
 use Rattle.tko_client.specs.Staying.{no_change}
 use Rattle.tko_client.specs.declared.calls.Went.TheVariants as went
 use Rattle.tko_client.specs.Handings as handing
+use Rattle.tko_client.specs.Shares.{acted}
 use Rattle.tko_client.proofs.AskLemmas.{same_asking}
 use Rattle.tko_client.proofs.SessionStandsLemmas.{between_ready, goes_none, idle_none, session_asks}
 use Rattle.tko_client.proofs.SessionStandsLemmas.{session_awaits, session_left, short_left}
 use Rattle.tko_client.proofs.KeysStandLemmas.{new_settled}
-use Rattle.tko_client.proofs.CalledLemmas.{gone_one}
 
 module _ {H T C : Type 0} (ghosts : PartsGhosts H (List ℕ) T C) (servers : H → ℕ) where
   -- a request for several keys was handed over, or dropped
@@ -46,7 +46,7 @@ module _ {H T C : Type 0} (ghosts : PartsGhosts H (List ℕ) T C) (servers : H �
       let begun : AreSettled parts.config keys =
       new_settled parts.config request old.plan keys (omega (arith, several)) begins in
       subst (λ w. IsCalled ghosts servers w (old, parts) (new, parts)) (sym is) (record {
-        gone = gone_one ghosts [] (
+        gone = acted [] (
           act.handed request keys refl several hands begins refl (ap (client_at Open) same),
           gains_none parts,
         );
@@ -74,7 +74,7 @@ module _ {H T C : Type 0} (ghosts : PartsGhosts H (List ℕ) T C) (servers : H �
       subst (λ w. WasDroppedFrom parts.config w old.session [] [] new.session) (sym hands.at)
       (driven.unkeyed (cuts.nothing refl) refl session) in
       subst (λ w. IsCalled ghosts servers w (old, parts) (new, parts)) (sym is) (record {
-        gone = gone_one ghosts [] (
+        gone = acted [] (
           act.lost [] refl refl (act.went [] [] lost refl)
               (ap (client_at Short) same
               ∙ ap (λ s. client_at Short (record old { session = s }))
@@ -103,7 +103,7 @@ module _ {H T C : Type 0} (ghosts : PartsGhosts H (List ℕ) T C) (servers : H �
       let empty : awaited_by_client new ≡ [] =
       session_awaits new None without (ap awaited_in between) in
       subst (λ w. IsCalled ghosts servers w (old, parts) (new, parts)) (sym is) (record {
-        gone = gone_one ghosts []
+        gone = acted []
             (act.replied keys has over lost refl (ap (client_at Open) same), gains_none parts);
         asks = same_asking (awaited_by_client old) (awaited_by_client new) (empty ∙ sym nobody);
         left = session_left went.On old new parts parts without
@@ -127,7 +127,7 @@ module _ {H T C : Type 0} (ghosts : PartsGhosts H (List ℕ) T C) (servers : H �
       let empty : awaited_by_client new ≡ [] =
       session_awaits new None without (ap awaited_in between) in
       subst (λ w. IsCalled ghosts servers w (old, parts) (new, parts)) (sym is) (record {
-        gone = gone_one ghosts []
+        gone = acted []
             (act.keys_lost keys has over refl (ap (client_at Short) same), gains_none parts);
         asks = same_asking (awaited_by_client old) (awaited_by_client new) (empty ∙ sym nobody);
         left = short_left old new parts parts without between

@@ -118,6 +118,11 @@ not_waiting keys waits some none =
     subst (λ b. OnFalse b (awaited_servers keys ≡ [])) none
     (none_true (awaited_servers keys) waits some)
 
+-- a request is under way for keys
+pub waiting : (keys : KeysState) (waits : Bool) → IsTrue waits ↔ (awaited_servers keys ≢ [])
+    → waits ≡ true → awaited_servers keys ≢ []
+waiting keys waits some is = some.0 (subst IsTrue (sym is) refl)
+
 -- nothing is due or under way for them, what came was taken on, and none may be begun
 pub complete_by : (keys : KeysState) (next : Option ℕ) (waits may : Bool) → keys.came.places ≡ []
     → IfNone next (keys.due ≢ [] → (keys.plan.grouping ≡ ByServer) × MayBegin keys)

@@ -13,9 +13,11 @@ use Rattle.tko_session.proofs.ActLemmas.{acted}
 use Rattle.tko_session.proofs.LifeLemmas.{begins}
 use Rattle.tko_port.specs.Talks.{Dropped, Ended, Fed, NotFed, Sent, TalkItem, Took, Went}
 use Rattle.tko_client.specs.Comings.{result_of}
-use Rattle.tko_client.specs.Clients.{ClientOver, ActsWithoutBytes, DoesAs, by_keys, by_session}
+use Rattle.tko_client.specs.Clients.{DoesAs}
+use Rattle.tko_client.specs.Clients.{by_keys, by_session}
 use Rattle.tko_client.specs.Clients.{HasLife, IsOwnTalk, bytes_in}
 use Rattle.tko_client.specs.Keys.{came_by}
+use Rattle.tko_client.specs.Shares.{ActsWithoutBytes, ClientCall, ClientOver, IsCallWithCost}
 
 -- the bytes that a call gives to the client
 abbrev pub bytes_out : TalkItem → ClientState → List ℕ
@@ -76,15 +78,28 @@ module _ {H T C : Type 0} (ghosts : PartsGhosts H (List ℕ) T C) (config : Conf
         to = grown.to ∙ append-nil (it.sent ++ []);
       }
 
+  calls_life : (it : Life) (old : ClientOver H T C) (calls : List ClientCall)
+      (new : ClientOver H T C) → IsClient config it old.0
+      → Lead (IsCallWithCost ghosts config) old calls new → Grows config it [] [] new.0
+  calls_life it old [] new is same = stays_so it old new is same
+  calls_life it old (call ∷ calls) new is (mid, step, rest) =
+      let grown = calls_life (lived it (life [] [] call.done)) mid calls new
+      (acted config it old.0 (life [] [] call.done) mid.0 is step.act.0) rest in record {
+        more = grown.more;
+        is = grown.is;
+        from = grown.from ∙ append-nil (it.bytes ++ []);
+        to = grown.to ∙ append-nil (it.sent ++ []);
+      }
+
   pub did : (it : Life) (old new : ClientOver H T C) (item : TalkItem) → old.1.config ≡ config
       → IsClient config it old.0 → DoesAs ghosts item old new
       → Grows config it (bytes_in item) (bytes_out item old.0) new.0
   did it old new (Went asked) same is gone =
-      gone_life it old gone.calls new is
-      (subst (λ c. Lead (ActsWithoutBytes ghosts c) old gone.calls new) same gone.gains.leads)
+      calls_life it old gone.calls new is
+      (subst (λ c. Lead (IsCallWithCost ghosts c) old gone.calls new) same gone.gains.leads)
   did it old new Dropped same is (gone, short) =
-      gone_life it old gone.calls new is
-      (subst (λ c. Lead (ActsWithoutBytes ghosts c) old gone.calls new) same gone.gains.leads)
+      calls_life it old gone.calls new is
+      (subst (λ c. Lead (IsCallWithCost ghosts c) old gone.calls new) same gone.gains.leads)
   did it old new (Fed bytes) same is act =
       one_act it (life bytes [] []) old.0 new.0 is
       (subst (λ c. IsAct c old.0 (life bytes [] []) new.0) same act.0)

@@ -28,13 +28,14 @@ use Rattle.tko_client.specs.declared.calls.Went.{Went}
 use Rattle.tko_client.specs.Answerings.{IsAnsweringReady, awaited_by_client, awaited_with}
 use Rattle.tko_client.specs.Answerings.{client_at}
 use Rattle.tko_client.specs.Calls.{IsTakenAs}
-use Rattle.tko_client.specs.Clients.{ActsWithoutBytes, by_keys, by_session}
+use Rattle.tko_client.specs.Clients.{by_keys, by_session}
 use Rattle.tko_client.specs.Counts.{IsSendCounted}
 use Rattle.tko_client.specs.Keys.{DoesForKeys, HaveActedOnOutcome, KeysOver, TakesAt, came_by}
 use Rattle.tko_client.specs.Staying.{stayed_on}
 use Rattle.tko_client.specs.Steps.{HasStayed, IsLostTaking, IsOutcomeTaken, IsSessionLeft}
 use Rattle.tko_client.specs.Steps.{StandsAfter, client_ghosts, phase_of, server_asked_in}
 use Rattle.tko_client.specs.declared.calls.Went.TheVariants as went
+use Rattle.tko_client.specs.Shares.{ActsWithoutBytes}
 use Rattle.tko_client.proofs.AskLemmas.{one_taken}
 use Rattle.tko_client.proofs.CountLemmas.{counted, one_stays, uncounted}
 use Rattle.tko_client.proofs.SessionStandsLemmas.{between_ready, session_awaits, session_left}

@@ -14,10 +14,11 @@ use Rattle.tko_client.specs.declared.calls.Went.{Went}
 use Rattle.tko_client.specs.Answerings.{IsAnsweringReady, asked_by, awaited_by_client, client_at}
 use Rattle.tko_client.specs.declared.client.ClientStanding.{ClientStanding}
 use Rattle.tko_client.specs.declared.client.ClientStanding.TheVariants.{Short as CourseShort}
-use Rattle.tko_client.specs.Clients.{CourseReading, CourseStands, HasGone, HasOutcomeTaken}
+use Rattle.tko_client.specs.Clients.{CourseReading, CourseStands, HasOutcomeTaken}
 use Rattle.tko_client.specs.Clients.{phase_at, stage_of}
 use Rattle.tko_client.specs.Keys.{TakesAt}
 use Rattle.tko_client.specs.Steps.{HasStayed, WentReading, WentStands, phase_of, server_asked_in}
+use Rattle.tko_client.specs.Shares.{HasCalled, HasGone}
 
 -- what a client's requests are answered by, and the parts
 abbrev pub AnsweringOver : Type 0 → Type 0 → Type 0 → Type 0
@@ -35,7 +36,7 @@ module _ {H T C : Type 0} (ghosts : PartsGhosts H (List ℕ) T C) (servers : H �
 
   -- a call came to this
   pub record IsCalled (went : Went) (old new : AnsweringOver H T C) : Type 0 where
-    pub gone : HasGone ghosts (client_at Open old.0, old.1)
+    pub gone : HasCalled ghosts (client_at Open old.0, old.1)
         (client_at (phase_of went) new.0, new.1)
     pub asks : IsAsking (server_asked_in went) (awaited_by_client old.0) (awaited_by_client new.0)
     pub left : IsLeftByCall went old new

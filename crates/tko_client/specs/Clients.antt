@@ -31,6 +31,7 @@ use Rattle.tko_client.specs.Answerings.{MayCallClient}
 use Rattle.tko_client.specs.Answerings.{awaited_by_client, client_at, held_by_client}
 use Rattle.tko_client.specs.Comings.{is_unsent, result_of}
 use Rattle.tko_client.specs.Keys.{IsSendOf, came_by}
+use Rattle.tko_client.specs.Shares.{ActsWithoutBytes, ClientOver, HasGone}
 
 abbrev pub stage_of : ClientStanding → SessionStage
 stage_of Going = stage.Going
@@ -116,21 +117,7 @@ talk_of it = record {
   held = held_by_client it.answering;
 }
 
--- a client, and the parts that all share
-abbrev pub ClientOver : Type 0 → Type 0 → Type 0 → Type 0
-ClientOver H T C = ClientState × Parts H (List ℕ) T C
-
 module _ {H T C : Type 0} (ghosts : PartsGhosts H (List ℕ) T C) where
-  -- an act in which no bytes come or go
-  abbrev pub ActsWithoutBytes : Configuration → ClientOver H T C → List Interaction
-      → ClientOver H T C → Type 0
-  ActsWithoutBytes config old done new = ActsOn ghosts config old (life [] [] done) new
-
-  -- acts in which no bytes come or go
-  pub record HasGone (old new : ClientOver H T C) : Type 0 where
-    pub calls : List (List Interaction)
-    pub gains : Gains (ActsWithoutBytes old.1.config) old calls new
-
   -- an act in which this came of the session's send, which is out to this server, and then more was
   -- done
   pub record HasTakenSend (server : ℕ) (result : Result Outcome ExchangeNoMemory)
@@ -139,7 +126,7 @@ module _ {H T C : Type 0} (ghosts : PartsGhosts H (List ℕ) T C) where
     pub at : old.0.session.work ≡ work.Awaits it
     pub to : it.awaited.server ≡ server
     pub then : List Interaction
-    pub act : ActsWithoutBytes old.1.config old (came_to it result ∷ then) new
+    pub act : ActsWithoutBytes ghosts old.1.config old (came_to it result ∷ then) new
 
   -- acts of which the first is that this came of a request for keys that were handed over, for each
   -- of its keys, and then more was done: of the first that is under way to this server; or of the
@@ -152,7 +139,7 @@ module _ {H T C : Type 0} (ghosts : PartsGhosts H (List ℕ) T C) where
     pub is : IsSendOf unsent server keys.sends send
     pub then : List Interaction
     pub calls : List (List Interaction)
-    pub gains : Gains (ActsWithoutBytes old.1.config) old
+    pub gains : Gains (ActsWithoutBytes ghosts old.1.config) old
         ((came_by result keys.slots send ++ then) ∷ calls) new
 
   pub data HasOutcomeTaken (unsent : Bool) (server : ℕ) (result : Result Outcome ExchangeNoMemory)
@@ -166,8 +153,8 @@ module _ {H T C : Type 0} (ghosts : PartsGhosts H (List ℕ) T C) where
   -- the keys of its request; memory runs out for it; bytes come, or there is no memory for them;
   -- they end; replies are written; or what came of its request is taken
   abbrev pub DoesAs : TalkItem → ClientOver H T C → ClientOver H T C → Type 0
-  DoesAs (Went asked) old new = HasGone old new
-  DoesAs Dropped old new = HasGone old new × (new.0.phase ≡ PhaseShort)
+  DoesAs (Went asked) old new = HasGone ghosts old new
+  DoesAs Dropped old new = HasGone ghosts old new × (new.0.phase ≡ PhaseShort)
   DoesAs (Fed bytes) old new = ActsOn ghosts old.1.config old (life bytes [] []) new
   DoesAs NotFed old new = new ≡ old
   DoesAs Ended old new = new ≡ old

@@ -5,5 +5,6 @@ pub mod Comings
 pub mod Counts
 pub mod Handings
 pub mod Keys
+pub mod Shares
 pub mod Staying
 pub mod Steps

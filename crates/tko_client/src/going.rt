@@ -1,11 +1,12 @@
 //! A client goes on as far as it can.
-ghost use Rattle.std.specs.Prelude.{◌≡◌, ◌≢◌, [], length};
+ghost use Rattle.std.specs.Prelude.{◌≡◌, ◌≢◌, ◌+◌, ◌-◌, ◌/◌, [], length};
 ghost use Rattle.std.specs.Bool.{OnFalse, OnTrue};
 ghost use Rattle.tko_session.specs.Outgoing.{outgoing};
 ghost use Rattle.tko_client.specs.Answerings.{HasFewReplies, IsAnsweringReady, IsClientIdle};
 ghost use Rattle.tko_client.specs.Answerings.{MayCallClient};
 ghost use Rattle.tko_client.specs.Calls.{IsCalled, IsHalted};
 ghost use Rattle.tko_client.specs.Steps.{client_ghosts};
+ghost use Rattle.tko_client.specs.Shares.{reply_unit};
 
 use crate::answering::Answering;
 use crate::calls::{Went, go_once};
@@ -18,11 +19,14 @@ use tko_io::IoRuntime;
 use tko_route::Health;
 use tko_session::{Parts, Session, Trails};
 
-/// How many calls of a client are made at a time, at most. What is left then is done after the
-/// other clients.
-const CALLS: u32 = 64;
+/// How much is done for a client at a time. A call costs one of it, and replies that it adds cost
+/// more. What is left to do then is done after the other clients.
+const SHARE: usize = 256;
 
-/// Goes on while it can, for a bounded number of calls.
+/// So many bytes of replies cost as much as a call.
+const REPLY_UNIT: usize = 12;
+
+/// Goes on while it can, until its share is used up.
 pub(crate) fn go_on<R: IoRuntime, H: Health, T: Trails, C>(
     rt: &R,
     alloc: Global,
@@ -35,15 +39,17 @@ pub(crate) fn go_on<R: IoRuntime, H: Health, T: Trails, C>(
     ensures { IsHalted (client_ghosts H.Health T.Trails) H.servers result.course result.asked
         (it.old, parts.old) (it.new, parts.new) }
 {
-    for _ in 0..CALLS {
+    let mut left = SHARE;
+    while left > 0 {
         if is_to_write(it) {
             return Halt {
                 course: ClientStanding::Full,
                 asked: None,
             };
         }
+        let held = it.session.held();
         match call_once(rt, alloc, it, parts) {
-            Went::On => {}
+            Went::On => left = left.saturating_sub(call_cost(held, it.session.held())),
             went => return Halt::after(it, went),
         }
     }
@@ -51,6 +57,13 @@ pub(crate) fn go_on<R: IoRuntime, H: Health, T: Trails, C>(
         course: ClientStanding::Going,
         asked: None,
     }
+}
+
+/// What a call costs before which so many bytes of replies were held, and after it so many.
+fn call_cost(before: usize, after: usize) -> usize
+    ensures { result ≡ 1 + (after - before) / reply_unit }
+{
+    1 + after.saturating_sub(before) / REPLY_UNIT
 }
 
 /// Whether replies are to be written before it goes on. The keys of a request go on all the same,

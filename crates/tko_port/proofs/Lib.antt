@@ -1,2 +1,3 @@
 pub mod WireLemmas
 mod PortLemmas
+mod ShareLemmas

@@ -3,6 +3,7 @@ pub mod Lives
 pub mod Peers
 pub mod Ports
 pub mod Rests
+pub mod Shares
 pub mod Staying
 pub mod Talks
 pub mod Wires

@@ -4,14 +4,16 @@ ghost use Rattle.tko_mux.specs.Awaits.{IsAsking};
 ghost use Rattle.std.specs.Bool.{OnFalse, OnTrue};
 ghost use Rattle.tko_port.specs.Lives.{IsReadyIdle, LeavesReady, ReadyAs, ReadyAt};
 ghost use Rattle.tko_port.specs.Rests.{CannotWrite, IsToRead, SettledAlone, SettledAsking};
+ghost use Rattle.tko_port.specs.Shares.{IsOneTurn, IsServedWithin};
 ghost use Rattle.tko_port.specs.Talks.{IsAtStage};
 
 use crate::{Port, Read, SessionStage, Talking};
 use tko_model::Clear;
 
-/// How often a client is read from or written to in one turn. What is left then is done in the next
-/// turn, after the other clients.
-const ROUNDS: u32 = 16;
+/// How often a client goes on, and then is read from or written to, in one turn. What is left then
+/// is done in the next turn, after the other clients. A request, its reply and a look for the next
+/// one take three rounds.
+const ROUNDS: usize = 4;
 
 /// Why a client's session ended.
 #[derive(Clone, Copy, Debug, PartialEq, Eq)]
@@ -42,7 +44,8 @@ pub enum Settled {
 }
 
 /// Serves a client until nothing can be done for it before its next event, or as much as is done
-/// for one client in a turn.
+/// for one client in a turn: a few rounds, and only one in which it has more to do than a session
+/// does at a time.
 pub fn settle<P, L: Port, T: Talking<P>>(
     port: &mut L,
     talk: &mut T,
@@ -53,6 +56,8 @@ pub fn settle<P, L: Port, T: Talking<P>>(
     requires room { 0 < length buffer.old }
     ensures ends { SettledAsking result (T.awaited talk.old) (T.awaited talk.new) (T.talk talk.new)
         (L.port port.new) (T.asks_for talk.new) }
+    ensures served { IsOneTurn T.does (length buffer.old) (talk.old, parts.old)
+        (L.port port.old) (talk.new, parts.new) (L.port port.new) }
     ensures ready { ReadyAs T.ready result parts.new (L.port port.new) talk.new }
     ensures stays { T.stays parts.old parts.new }
 {
@@ -77,6 +82,8 @@ fn serve<P, L: Port, T: Talking<P>>(
         SettledAsking settled (T.awaited talk.old) (T.awaited talk.new) (T.talk talk.new)
         (L.port port.new) (T.asks_for talk.new)) }
     ensures same { IfNone result (IsAsking None (T.awaited talk.old) (T.awaited talk.new)) }
+    ensures served { IsServedWithin T.does 1 (length buffer.old) (talk.old, parts.old)
+        (L.port port.old) (talk.new, parts.new) (L.port port.new) }
     ensures ready { LeavesReady T.ready T.stays result parts.old parts.new (L.port port.new)
         talk.new }
 {
@@ -104,6 +111,8 @@ fn serve_here<P, L: Port, T: Talking<P>>(
         SettledAlone settled (T.awaited talk.new) (T.talk talk.new) (L.port port.new)
         (T.asks_for talk.new)) }
     ensures same { T.awaited talk.new ≡ T.awaited talk.old }
+    ensures served { IsServedWithin T.does 0 (length buffer.old) (talk.old, parts.old)
+        (L.port port.old) (talk.new, parts.new) (L.port port.new) }
     ensures ready { LeavesReady T.ready T.stays result parts.old parts.new (L.port port.new)
         talk.new }
 {
@@ -130,11 +139,13 @@ fn serve_idle<P, L: Port, T: Talking<P>>(
         SettledAlone settled (T.awaited talk.new) (T.talk talk.new) (L.port port.new)
         (T.asks_for talk.new)) }
     ensures here { T.awaited talk.new ≡ [] }
+    ensures served { IsServedWithin T.does 0 (length buffer.old) (talk.old, parts.old)
+        (L.port port.old) (talk.new, parts.new) (L.port port.new) }
     ensures ready { LeavesReady T.ready T.stays result parts.old parts.new (L.port port.new)
         talk.new }
 {
     if can_write::<P, _, _>(port, talk) {
-        return write_out(port, talk, parts);
+        return write_share(port, talk, parts);
     }
     match talk.stage() {
         SessionStage::Going => Some(Settled::Spent),
@@ -177,6 +188,32 @@ fn has_output<P, T: Talking<P>>(talk: &T) -> bool
     !talk.output().is_empty()
 }
 
+/// Writes what waits, once. A session that could go on, and did as much as it does at a time, does
+/// no more in this turn.
+fn write_share<P, L: Port, T: Talking<P>>(
+    port: &mut L,
+    talk: &mut T,
+    parts: &mut P,
+) -> Option<Settled>
+    requires idle { IsReadyIdle T.ready parts.old (L.port port.old) talk.old (T.awaited talk.old) }
+    requires writable { (L.port port.old).writable ≡ true }
+    ensures ends { IfSome result (λ settled.
+        SettledAlone settled (T.awaited talk.new) (T.talk talk.new) (L.port port.new)
+        (T.asks_for talk.new)) }
+    ensures spent { (T.talk talk.old).stage ≡ SessionStage.Going → result ≢ None }
+    ensures here { T.awaited talk.new ≡ [] }
+    ensures served { IsServedWithin T.does 0 0 (talk.old, parts.old) (L.port port.old)
+        (talk.new, parts.new) (L.port port.new) }
+    ensures ready { LeavesReady T.ready T.stays result parts.old parts.new (L.port port.new)
+        talk.new }
+{
+    let stage = talk.stage();
+    match (stage, write_out(port, talk, parts)) {
+        (SessionStage::Going, None) => Some(Settled::Spent),
+        (_, written) => written,
+    }
+}
+
 /// Writes what waits, once.
 fn write_out<P, L: Port, T: Talking<P>>(
     port: &mut L,
@@ -187,6 +224,8 @@ fn write_out<P, L: Port, T: Talking<P>>(
     requires writable { (L.port port.old).writable ≡ true }
     ensures ends { IfSome result (λ settled. settled ≡ Settled.Ends End.WriteFailed) }
     ensures here { T.awaited talk.new ≡ [] }
+    ensures served { IsServedWithin T.does 0 0 (talk.old, parts.old) (L.port port.old)
+        (talk.new, parts.new) (L.port port.new) }
     ensures ready { ReadyAt T.ready parts.new (L.port port.new) talk.new }
     ensures stays { T.stays parts.old parts.new }
 {
@@ -213,6 +252,8 @@ fn read_in<P, L: Port, T: Talking<P>>(
         SettledAlone settled (T.awaited talk.new) (T.talk talk.new) (L.port port.new)
         (T.asks_for talk.new)) }
     ensures here { T.awaited talk.new ≡ [] }
+    ensures served { IsServedWithin T.does 0 (length buffer.old) (talk.old, parts.old)
+        (L.port port.old) (talk.new, parts.new) (L.port port.new) }
     ensures ready { LeavesReady T.ready T.stays result parts.old parts.new (L.port port.new)
         talk.new }
 {

@@ -7,8 +7,8 @@ use Rattle.tko_client.specs.Steps.{client_ghosts}
 use Rattle.tko_client.specs.declared.calls.Went.TheVariants.{Asks, On}
 use Rattle.tko_client.proofs.KeysStandLemmas.{complete_by, is_handed}
 use Rattle.tko_client.proofs.HandedLemmas.{ended_called}
-use Rattle.tko_client.proofs.CalledLemmas.{keys_called}
-use Rattle.tko_client.proofs.KeysStandLemmas.{not_waiting, settled}
+use Rattle.tko_client.proofs.CalledLemmas.{keys_called, waits_called}
+use Rattle.tko_client.proofs.KeysStandLemmas.{not_waiting, settled, waiting}
 use Rattle.tko_client.proofs.KeysLemmas.{sent_call}
 use Rattle.tko_client.proofs.going.call_once.Goals as goal
 
@@ -56,3 +56,11 @@ returns-else-is_asking g c =
     (subst (λ k. HasEndedKeys c.end_keys.result
     (record c.args.it.now { keys = k }) c.end_keys.new.it)
     (sym is) c.end_keys.ensures)
+
+pub returns-then-is_asking : goal.returns-then-is_asking
+returns-then-is_asking g c =
+    let keys = c.get_mut-keys.result.now in
+    let is = c.in-Some.is ∙ ap Some (sym c.get_mut-keys.ensures.value) in
+    waits_called (client_ghosts {C = g.row.C.Denot} g.H.Health g.T.Trails) g.H.Health.servers
+    c.args.it.now keys c.args.parts.now c.requires.ready is
+    (waiting keys c.is_asking.result c.is_asking.ensures c.if-is_asking.true)
