@@ -2,10 +2,13 @@
 import fcntl
 import os
 import re
+import resource
 import struct
 import subprocess
+import tempfile
 import termios
 import threading
+import time
 from datetime import datetime
 
 from parts import ServerTest, configuration, serve_words, start, stop
@@ -152,3 +155,58 @@ class Log(ServerTest):
                 told = next(line for line in log if b" lost events=" in line)
             self.assertRegex(told[25:], rb"^lost events=[1-9][0-9]*\n$")
         self.assertIsNone(process.poll())
+
+    def begin(self, errors, **given):
+        """The port of a program over one server that refuses, and the program, whose log goes to this descriptor."""
+        port = free_port()
+        words = serve_words(port, configuration(only=[self.closed()]),
+                            {"threads": 1, "first-delay": 60_000, "greatest-delay": 60_000})
+        process = start(words, stdout=subprocess.DEVNULL, stderr=errors, **given)
+        self.addCleanup(stop, process)
+        wait_until(lambda: is_open(port), 20, "clients can connect")
+        return port, process
+
+    def marks(self, port):
+        with Client(port) as client:
+            self.assertEqual(client.ask(b"get a\r\n"), b"SERVER_ERROR no server\r\n")
+
+    def test_lines_that_cannot_be_written_are_counted(self):
+        reader, writer = os.pipe()
+        os.set_blocking(writer, False)
+        fill(writer)
+        port, _ = self.begin(writer)
+        os.close(writer)
+        self.marks(port)
+        # Some of the events `started`, `listening` and `marked` are lost as long as nobody reads.
+        time.sleep(2)
+        with open(reader, "rb") as log:
+            self.assertRegex(log.readline(), rb"^#+\n$")
+            count = re.fullmatch(rb"\S+ lost events=([1-3])\n", log.readline())
+            written = [log.readline() for _ in range(3 - int(count.group(1)))]
+        self.assertTrue(all(STAMP.match(line.decode()) for line in written), written)
+
+    def test_a_torn_line_is_ended_before_the_next(self):
+        with tempfile.TemporaryFile() as errors:
+            text = lambda: os.pread(errors.fileno(), 10_000, 0)
+            # The signal of a file that has grown to its limit is ignored here, and so by a program that keeps signals.
+            port, process = self.begin(errors, restore_signals=False)
+            wait_until(lambda: b" listening " in text(), 20, "the log has begun")
+            whole, limits = len(text()), resource.prlimit(process.pid, resource.RLIMIT_FSIZE)
+            resource.prlimit(process.pid, resource.RLIMIT_FSIZE, (whole + 10, limits[1]))
+            self.marks(port)
+            wait_until(lambda: len(text()) == whole + 10, 20, "a part of a line is written")
+            resource.prlimit(process.pid, resource.RLIMIT_FSIZE, limits)
+            wait_until(lambda: text().endswith(b" lost events=1\n"), 20, "it is said that a line was lost")
+            torn, lost, _ = text()[whole:].split(b"\n")
+        self.assertEqual(len(torn), 10)
+        self.assertTrue(STAMP.match(lost.decode()), lost)
+
+
+def fill(pipe):
+    """Writes into a pipe that does not block until nothing more can be written."""
+    for piece in (b"#" * 4096, b"#"):
+        try:
+            while True:
+                os.write(pipe, piece)
+        except BlockingIOError:
+            pass

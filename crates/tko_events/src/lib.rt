@@ -15,6 +15,7 @@
 mod event;
 mod journal;
 mod lacks;
+mod line_writer;
 mod log;
 mod moment;
 mod reader;

@@ -2,8 +2,9 @@
 
 use crate::event::{LogEvent, What};
 use crate::journal::Journal;
+use crate::line_writer::LineWriter;
 use crate::log::SharedLog;
-use crate::moment::{Utc, now};
+use crate::moment::now;
 use crossbeam_channel::{Receiver, RecvTimeoutError};
 use std::alloc::{AllocError, Global};
 use std::sync::atomic::Ordering;
@@ -31,8 +32,8 @@ struct Sum {
 }
 
 impl LogReader {
-    /// Writes a line for each event to standard error, until the log has ended. What cannot be
-    /// written is dropped, and so is a line for which there is no memory.
+    /// Writes a line for each event to standard error, until the log has ended. A line that cannot
+    /// be written, or for which there is no memory, is lost, and counts as an event that was lost.
     pub fn write_lines<R: Wait + Clock + Eprint>(
         &self,
         rt: &R,
@@ -43,37 +44,35 @@ impl LogReader {
             moment: now(rt),
             faults: 0,
         };
+        let mut writer = LineWriter::new();
         for _ in rt.forever() {
             let came = self.receiver.recv_timeout(rt, Duration::from_millis(TURN));
-            self.write_lost(rt);
+            self.write_lost(rt, &mut writer);
             match came {
                 Ok(event) if event.what == What::Ended => break,
-                Ok(event) => write_event(rt, alloc, journal, event),
+                Ok(event) => write_event(rt, alloc, journal, &mut writer, event),
                 Err(RecvTimeoutError::Timeout) if self.has_ended() => break,
                 Err(RecvTimeoutError::Timeout) => {}
                 Err(RecvTimeoutError::Disconnected) => break,
             }
-            self.write_sum(rt, alloc, journal, &mut sum, SUM_EVERY);
+            self.write_sum(rt, alloc, journal, &mut writer, &mut sum, SUM_EVERY);
         }
-        self.write_sum(rt, alloc, journal, &mut sum, 0);
+        self.write_sum(rt, alloc, journal, &mut writer, &mut sum, 0);
         let ended = LogEvent {
             moment: None,
             what: What::Ended,
         };
-        write_event(rt, alloc, journal, ended);
+        write_event(rt, alloc, journal, &mut writer, ended);
     }
 
     fn has_ended(&self) -> bool {
         self.shared.ended.load(Ordering::SeqCst) == 1
     }
 
-    /// Writes how many events were lost since the last time, if there are any.
-    fn write_lost<R: Wait + Clock + Eprint>(&self, rt: &R) {
-        let lost = self.shared.lost.swap(0, Ordering::SeqCst);
-        if 0 < lost {
-            let utc = Utc(now(rt));
-            let _ = eprintln!(rt; "{utc} lost events={lost}");
-        }
+    /// Writes how many events were lost since the last such line, if there are any.
+    fn write_lost<R: Wait + Clock + Eprint>(&self, rt: &R, writer: &mut LineWriter) {
+        writer.lose(self.shared.lost.swap(0, Ordering::SeqCst));
+        writer.write_lost(rt, now(rt));
     }
 
     /// Writes the sum of the clients, where more of them ended by a fault, at most once in this
@@ -83,6 +82,7 @@ impl LogReader {
         rt: &R,
         alloc: Global,
         journal: &mut Journal,
+        writer: &mut LineWriter,
         sum: &mut Sum,
         every: u64,
     ) {
@@ -97,13 +97,20 @@ impl LogReader {
             moment: Some(moment),
             what: What::Clients { sessions, faults },
         };
-        write_event(rt, alloc, journal, event);
+        write_event(rt, alloc, journal, writer, event);
     }
 }
 
 /// Writes the line of an event.
-fn write_event<R: Clock + Eprint>(rt: &R, alloc: Global, journal: &mut Journal, event: LogEvent) {
-    if let Ok(line) = journal.line(alloc, event, now(rt)) {
-        let _ = rt.eprint(line.as_str());
+fn write_event<R: Clock + Eprint>(
+    rt: &R,
+    alloc: Global,
+    journal: &mut Journal,
+    writer: &mut LineWriter,
+    event: LogEvent,
+) {
+    match journal.line(alloc, event, now(rt)) {
+        Ok(line) => writer.write(rt, line.as_str()),
+        Err(_) => writer.lose(1),
     }
 }
