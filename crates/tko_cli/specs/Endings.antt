@@ -1,5 +1,5 @@
 -- What a command did, by how it ended.
-use Rattle.std.specs.Prelude.{ℕ, ◌≡◌, ◌<◌, List, Option, Some, None, string_bytes}
+use Rattle.std.specs.Prelude.{ℕ, ◌≡◌, ◌<◌, true, false, List, Option, Some, None, string_bytes}
 use Rattle.std.specs.declared.fs.File.{File}
 use Rattle.tko_io.specs.declared.io.Inlet.{Ghosts as InletGhosts}
 use Rattle.tko_io.specs.declared.io.Outlet.{Ghosts as OutletGhosts}
@@ -14,6 +14,7 @@ use Rattle.tko_cli.specs.Demos.{HasDemonstrated, IsDemoFault}
 use Rattle.tko_demo.specs.Stories.{StayFails}
 use Rattle.tko_cli.specs.Notices.{HasServerNotes}
 use Rattle.tko_cli.specs.Serving.{HasServeFailed, HasServedOrChecked, IsOfSystem, ServeFails}
+use Rattle.tko_reach.specs.Connecting.{HasAskedServers, HasNotAskedServers}
 use Rattle.tko_options.specs.Asked.{IsReadFrom, IsRefusal}
 use Rattle.tko_options.specs.declared.asked.Asked.TheVariants as asked
 use Rattle.tko_options.specs.declared.check_options.CheckOptions.{CheckOptions}
@@ -62,8 +63,13 @@ pub data IsCommandDone {I O F : Type 0} (inlet : InletGhosts I) (outlet : Outlet
       → HasServedFor outlet notes options (old.output, old.faults) (new.output, new.faults)
       → new.input ≡ old.input → IsCommandDone inlet outlet notes words old new
   Checked : (left : File → Option (List ℕ)) (options : CheckOptions)
-      → IsReadFrom words (asked.Check options)
+      → IsReadFrom words (asked.Check options) → options.connect ≡ false
       → HasCheckedAll inlet left outlet.takes options (old.input, old.output)
+      (new.input, new.output)
+      → new.faults ≡ old.faults → IsCommandDone inlet outlet notes words old new
+  Connected : (left : File → Option (List ℕ)) (options : CheckOptions)
+      → IsReadFrom words (asked.Check options) → options.connect ≡ true
+      → HasAskedServers inlet left outlet.takes options true (old.input, old.output)
       (new.input, new.output)
       → new.faults ≡ old.faults → IsCommandDone inlet outlet notes words old new
   Demonstrated : (options : DemoOptions) → IsReadFrom words (asked.Demo options)
@@ -72,6 +78,18 @@ pub data IsCommandDone {I O F : Type 0} (inlet : InletGhosts I) (outlet : Outlet
   Shown : (shown : Refusal) (text : List ℕ) → IsRefusal words shown → answer_in shown ≡ Some text
       → outlet.takes old.output text new.output → new.input ≡ old.input
       → new.faults ≡ old.faults → IsCommandDone inlet outlet notes words old new
+
+-- these words ask for a check that also asks the servers, it was done, and a server did not give
+-- its version; no fault was written
+pub record LacksVersions {I O F : Type 0} (inlet : InletGhosts I) (outlet : OutletGhosts O)
+    (words : List (List ℕ)) (old new : CommandEnds I O F) : Type 0 where
+  pub left : File → Option (List ℕ)
+  pub options : CheckOptions
+  pub asked : IsReadFrom words (asked.Check options)
+  pub connects : options.connect ≡ true
+  pub connected : HasAskedServers inlet left outlet.takes options false (old.input, old.output)
+      (new.input, new.output)
+  pub silent : new.faults ≡ old.faults
 
 -- by this fault a server of these options ended: the file of their configuration cannot be read, or
 -- it failed with the text of that file
@@ -112,7 +130,12 @@ pub data IsNotDone {I O : Type 0} (inlet : InletGhosts I) (outlet : OutletGhosts
       → HasNotServed outlet.takes outlet.failures options old.1 new.1 reason
       → new.0 ≡ old.0 → IsNotDone inlet outlet words old new reason
   NotCheckedFor : (options : CheckOptions) → IsReadFrom words (asked.Check options)
+      → options.connect ≡ false
       → HasNotChecked inlet.failures outlet.failures options old new reason
+      → IsNotDone inlet outlet words old new reason
+  NotConnectedFor : (left : File → Option (List ℕ)) (options : CheckOptions)
+      → IsReadFrom words (asked.Check options) → options.connect ≡ true
+      → HasNotAskedServers inlet left outlet options old new reason
       → IsNotDone inlet outlet words old new reason
   NotShown : (shown : Refusal) (text : List ℕ) → IsRefusal words shown
       → answer_in shown ≡ Some text → reason ≡ fault.Write

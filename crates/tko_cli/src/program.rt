@@ -1,6 +1,6 @@
 //! From the arguments to the status.
 ghost use Rattle.std.specs.Prelude.{◌≡◌, ◌<◌, ◌≤◌, IfErr, OnOk, map, string_bytes};
-ghost use Rattle.tko_cli.specs.Endings.{HasCommandFailed, HasNotServed, HasNotesFor, HasServedFor, IsCommandDone, IsFaultTold, ends};
+ghost use Rattle.tko_cli.specs.Endings.{HasCommandFailed, HasNotServed, HasNotesFor, HasServedFor, IsCommandDone, IsFaultTold, LacksVersions, ends};
 ghost use Rattle.tko_cli.specs.Notices.{HasServerNotes};
 ghost use Rattle.tko_cli.specs.Serving.{HasServedOrChecked, ServeFails};
 
@@ -16,12 +16,14 @@ use tko_commands::{
 };
 use tko_io::{Inlet, IoRuntime, Outlet};
 use tko_options::{Asked, Refusal, ServeOptions};
+use tko_reach::run_connected;
 
 const REFUSED: u8 = 2;
 
 /// Runs the command that the words name, of which the first is the program's name, and returns the
-/// status: 0 where it was done, 1 after a fault, 2 where the words were refused. Replies and runs
-/// go to `output`, and the line of a fault to `faults`.
+/// status: 0 where it was done, 1 after a fault, 2 where the words were refused, 3 where a server
+/// did not give its version to `check --connect`. Replies and runs go to `output`, and the line of
+/// a fault to `faults`.
 pub fn command<
     R: IoRuntime<Listener = TcpListener>
         + Threads
@@ -35,19 +37,24 @@ pub fn command<
     O: Outlet,
     F: Outlet,
 >(rt: &R, alloc: Global, words: &[String], input: &mut I, output: &mut O, faults: &mut F) -> u8
-    ensures status { result ≤ 2 }
+    ensures status { result ≤ 3 }
     ensures done { result ≡ 0 → IsCommandDone I.Inlet O.Outlet F.Outlet (map string_bytes words.now)
         (ends input.old output.old faults.old) (ends input.new output.new faults.new) }
     ensures fault { result ≡ 1 → HasCommandFailed I.Inlet O.Outlet F.Outlet
         (map string_bytes words.now)
         (ends input.old output.old faults.old) (ends input.new output.new faults.new) }
     ensures refused { result ≡ 2 → (input.new ≡ input.old) × (output.new ≡ output.old) }
+    ensures unanswered { result ≡ 3 → LacksVersions I.Inlet O.Outlet (map string_bytes words.now)
+        (ends input.old output.old faults.old) (ends input.new output.new faults.new) }
 {
     match Asked::read(alloc, words) {
         Ok(Asked::Dry(options)) => run_dry(rt, alloc, options, input, output, faults),
         Ok(Asked::Replay) => run_replay(rt, alloc, input, output, faults),
         Ok(Asked::Serve(options)) => run_server(rt, alloc, options, output, faults),
         Ok(Asked::Demo(options)) => run_demo(rt, alloc, options, input, output, faults),
+        Ok(Asked::Check(options)) if options.connect => {
+            run_connected(rt, alloc, options, input, output, faults)
+        }
         Ok(Asked::Check(options)) => run_check(rt, alloc, options, input, output, faults),
         Err(Refusal::Memory) => status_of(rt, alloc, faults, Err(Fault::Memory)),
         Err(Refusal::Wrong(text)) => refuse(rt, faults, text.as_str()),

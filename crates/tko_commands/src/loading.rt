@@ -51,7 +51,7 @@ pub fn loaded_server<R: IoRuntime + Files, F: Outlet>(
 
 /// The options, with the text of their configuration's file in the place of the configuration, and
 /// that of the file of the one to compare with in the place of that.
-pub(crate) fn loaded_check<R: IoRuntime + Files, F: Outlet>(
+pub fn loaded_check<R: IoRuntime + Files, F: Outlet>(
     rt: &R,
     alloc: Global,
     mut options: CheckOptions,

@@ -1,5 +1,6 @@
 //! Commands run to their status. Their faults are reported.
 ghost use Rattle.std.specs.Prelude.{◌≡◌, ◌≤◌, Err, IsOk};
+ghost use Rattle.tko_commands.specs.Checks.{CheckFails, HasChecked};
 ghost use Rattle.tko_commands.specs.Done.{HasCheckedAll, HasDried};
 ghost use Rattle.tko_commands.specs.FaultLines.{IsReasonTold};
 ghost use Rattle.tko_commands.specs.NotDone.{HasNotChecked, HasNotDried};
@@ -91,12 +92,31 @@ pub fn run_check<R: IoRuntime + Files, I: Inlet, O: Outlet, F: Outlet>(
         (input.old, output.old) (input.new, output.new)) faults.old faults.new }
 {
     match loaded_check(rt, alloc, options, faults) {
-        Ok(options) => {
-            let done = check(rt, alloc, &options, input, output);
-            status_of_check(rt, alloc, faults, &options, done)
-        }
+        Ok(options) => check_loaded(rt, alloc, &options, input, output, faults),
         Err(fault) => fail(rt, alloc, faults, fault),
     }
+}
+
+/// Checks the configuration in the text of the options, and returns the status. The input is read
+/// only for a list of keys.
+pub fn check_loaded<R: IoRuntime + Files, I: Inlet, O: Outlet, F: Outlet>(
+    rt: &R,
+    alloc: Global,
+    options: &CheckOptions,
+    input: &mut I,
+    output: &mut O,
+    faults: &mut F,
+) -> u8
+    ensures status { result ≤ 1 }
+    ensures check { result ≡ 0 → HasChecked I.Inlet R.File.remaining O.takes options.now
+        (input.old, output.old) (input.new, output.new) }
+    ensures done { result ≡ 0 → faults.new ≡ faults.old }
+    ensures fault { result ≡ 1 → IsReasonTold F.takes F.failures
+        (CheckFails I.failures O.failures options.now
+        (input.old, output.old) (input.new, output.new)) faults.old faults.new }
+{
+    let done = check(rt, alloc, options, input, output);
+    status_of_check(rt, alloc, faults, options, done)
 }
 
 /// The status of a check of these options, which wrote nothing to `faults`. Its fault is reported,

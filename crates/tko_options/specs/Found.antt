@@ -83,6 +83,8 @@ pub record AreCheckFound (found : Found) (options : CheckOptions) : Type 0 where
   pub against : options.against ≡ None
   pub against_file :
       option_map string_bytes options.against_file ≡ first_value found (codes "against")
+  pub connect : IsSwitchAt found (codes "connect") options.connect
+  pub timeout : IsNumberAt 32 found (codes "timeout") options.timeout
   pub are_keys : has_keys found ≡ true
   pub compares : compares_lists found ≡ true
 

@@ -6,7 +6,7 @@ ghost use Rattle.tko_options.specs.Found.{AreCheckFound};
 ghost use Rattle.tko_options.specs.Misfits.{IsCheckMisfit, IsRefusedAs};
 ghost use Rattle.tko_text.specs.Keys.{is_key};
 
-use crate::found::{optional_text, text_of, texts_of};
+use crate::found::{number_of, optional_text, switch_of, text_of, texts_of};
 use crate::refusal::Refusal;
 use clap::ArgMatches;
 use clap::error::ErrorKind;
@@ -34,6 +34,10 @@ pub struct CheckOptions {
     pub against: Option<String>,
     /// The path of the file of that configuration.
     pub against_file: Option<String>,
+    /// Whether each server of the configuration is asked for its version.
+    pub connect: bool,
+    /// How long a server may take for that, in milliseconds.
+    pub timeout: u32,
 }
 
 impl CheckOptions {
@@ -57,6 +61,8 @@ impl CheckOptions {
             keys_from,
             against: None,
             against_file,
+            connect: switch_of(found, "connect"),
+            timeout: number_of(found, "timeout"),
         })
     }
 }

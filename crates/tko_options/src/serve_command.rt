@@ -12,7 +12,7 @@ use std::alloc::{AllocError, Global};
 
 const DEFAULT_LOG: &str = "stderr";
 
-const DEFAULT_TIMEOUT: &str = "1000";
+pub(crate) const DEFAULT_TIMEOUT: &str = "1000";
 
 const DEFAULT_FIRST_DELAY: &str = "10000";
 

@@ -1,12 +1,13 @@
-use Rattle.std.proofs.Common.{◌≡◌, ◌<◌, rules, Err, Some, ap, map, refl, string_bytes, sym}
+use Rattle.std.proofs.Common.{◌≡◌, ◌<◌, rules, true, false, Err, Some, ap, map, refl, string_bytes, sym}
 use Rattle.tko_commands.proofs.FaultLineLemmas.{of_err, of_ok, told_as}
 use Rattle.tko_commands.specs.declared.fault.Fault.{Fault}
 use Rattle.tko_commands.specs.declared.fault.Fault.TheVariants as fault
 use Rattle.tko_commands.specs.NotDone.{HasNotChecked, HasNotDried}
 use Rattle.tko_commands.specs.Replays.{ReplayFails}
+use Rattle.tko_reach.specs.Connecting.{HasNotAskedServers}
 use Rattle.tko_options.specs.declared.asked.Asked.TheVariants as asked
 use Rattle.tko_options.specs.declared.refusal.Refusal.TheVariants as refusal
-use Rattle.tko_cli.specs.Endings.{AfterReason, Checked, Demonstrated, Dried, HasNotServed, HasNotesFor, HasNotesOf, IsNotDone, NotCheckedFor, NotDemonstrated, NotDriedFor, NotRead, NotReplayed, NotServedFor, NotShown, Served, Shown, WithFault}
+use Rattle.tko_cli.specs.Endings.{AfterReason, Checked, Connected, Demonstrated, Dried, HasNotServed, HasNotesFor, HasNotesOf, IsNotDone, NotCheckedFor, NotConnectedFor, NotDemonstrated, NotDriedFor, NotRead, NotReplayed, NotServedFor, NotShown, Served, Shown, WithFault}
 use Rattle.tko_cli.proofs.EndingLemmas.{asked_of, fault_as, refused_of}
 use Rattle.tko_cli.proofs.program.command.Goals as goal
 
@@ -25,8 +26,26 @@ returns-in-Ok-Serve-clause-done g c = λ is.
 pub returns-in-Ok-Check-clause-done : goal.returns-in-Ok-Check-clause-done
 returns-in-Ok-Check-clause-done g c = λ is.
     let options = c.in-Ok-Check.options in
+    Connected _ options (asked_of c.read.result _ (asked.Check options) (search rules) c.read.ensures.read)
+    (search rules) (c.run_connected.ensures.whole is) (c.run_connected.ensures.done (search rules))
+
+pub returns-in-Ok-Check-clause-unanswered : goal.returns-in-Ok-Check-clause-unanswered
+returns-in-Ok-Check-clause-unanswered g c = λ is.
+    let options = c.in-Ok-Check.options in
+    record {
+      left = _;
+      options = options;
+      asked = asked_of c.read.result _ (asked.Check options) (search rules) c.read.ensures.read;
+      connects = search rules;
+      connected = c.run_connected.ensures.part is;
+      silent = c.run_connected.ensures.done (search rules);
+    }
+
+pub returns-in-Ok-Check-2-clause-done : goal.returns-in-Ok-Check-2-clause-done
+returns-in-Ok-Check-2-clause-done g c = λ is.
+    let options = c.in-Ok-Check.options in
     Checked _ options (asked_of c.read.result _ (asked.Check options) (search rules) c.read.ensures.read)
-    (c.run_check.ensures.check is) (c.run_check.ensures.done is)
+    (search rules) (c.run_check.ensures.check is) (c.run_check.ensures.done is)
 
 pub returns-in-Ok-Demo-clause-done : goal.returns-in-Ok-Demo-clause-done
 returns-in-Ok-Demo-clause-done g c = λ is.
@@ -78,10 +97,22 @@ returns-in-Ok-Check-clause-fault g c = λ is.
     let options = c.in-Ok-Check.options in
     let words = map string_bytes c.args.words.now in
     let asked_is = asked_of c.read.result _ (asked.Check options) (search rules) c.read.ensures.read in
+    let connects : options.connect ≡ true = search rules in
+    WithFault (AfterReason (told_as g.F.Outlet.takes g.F.Outlet.failures
+    (HasNotAskedServers g.I.Inlet _ g.O.Outlet options (c.args.input.now, c.args.output.now) (c.run_connected.new.input, c.run_connected.new.output))
+    (IsNotDone g.I.Inlet g.O.Outlet words (c.args.input.now, c.args.output.now) (c.run_connected.new.input, c.run_connected.new.output)) c.args.faults.now c.run_connected.new.faults
+    (λ reason why. NotConnectedFor _ options asked_is connects why) (c.run_connected.ensures.fault is)))
+
+pub returns-in-Ok-Check-2-clause-fault : goal.returns-in-Ok-Check-2-clause-fault
+returns-in-Ok-Check-2-clause-fault g c = λ is.
+    let options = c.in-Ok-Check.options in
+    let words = map string_bytes c.args.words.now in
+    let asked_is = asked_of c.read.result _ (asked.Check options) (search rules) c.read.ensures.read in
+    let alone : options.connect ≡ false = search rules in
     WithFault (AfterReason (told_as g.F.Outlet.takes g.F.Outlet.failures
     (HasNotChecked g.I.Inlet.failures g.O.Outlet.failures options (c.args.input.now, c.args.output.now) (c.run_check.new.input, c.run_check.new.output))
     (IsNotDone g.I.Inlet g.O.Outlet words (c.args.input.now, c.args.output.now) (c.run_check.new.input, c.run_check.new.output)) c.args.faults.now c.run_check.new.faults
-    (λ reason why. NotCheckedFor options asked_is why) (c.run_check.ensures.fault is)))
+    (λ reason why. NotCheckedFor options asked_is alone why) (c.run_check.ensures.fault is)))
 
 pub returns-in-Err-Memory-clause-fault : goal.returns-in-Err-Memory-clause-fault
 returns-in-Err-Memory-clause-fault g c = λ is.

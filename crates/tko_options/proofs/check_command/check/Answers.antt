@@ -9,4 +9,4 @@ returns c =
     let empty : ReadsAs (new_app (codes "check")) c.after_help.result = search rules in
     let config = adds_option _ _ _ _ c.in_ok-arg.field-0 empty c.in_ok-arg.ensures c.in_ok-config.ensures.local c.in_ok-config.ensures.rule in
     let file = adds_option _ _ _ _ c.in_ok-check.check config c.in_ok-check.ensures c.in_ok-required_file.ensures.local c.in_ok-required_file.ensures.rule in
-    c.with_keys.ensures _ file
+    c.with_connecting.ensures _ (c.in_ok-check-2.ensures _ file)

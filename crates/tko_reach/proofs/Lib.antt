@@ -1,0 +1,3 @@
+pub mod HearLemmas
+pub mod ReachLemmas
+pub mod SendLemmas
