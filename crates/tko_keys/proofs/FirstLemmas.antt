@@ -135,6 +135,15 @@ module _ {X : Type 0} (test : X → Bool) where
   never_none xs some none =
       none-some (position_or_len test xs) (sym none ∙ place_found xs some)
 
+  none_of : (xs : List X) (found : Option X) → find test xs ≡ found → position test xs ≡ None
+      → find test xs ≡ None
+  none_of xs None is none = is
+  none_of xs (Some x) is none = absurd (never_none xs (subst IsSome (sym is) refl) none)
+
+  -- none is found where no place is
+  pub none_found : (xs : List X) → position test xs ≡ None → find test xs ≡ None
+  none_found xs none = none_of xs (find test xs) refl none
+
   some_place : (xs : List X) (found : Option ℕ) → position test xs ≡ found
       → is_some found ≡ true → IsSome (find test xs)
   some_place xs None at some = absurd (let none : ⊥ = cc some in none)

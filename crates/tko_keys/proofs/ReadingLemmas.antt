@@ -1,14 +1,16 @@
 -- The requests that are lent, and the attempts before them.
-use Rattle.std.proofs.Common.{◌≡◌, ◌<◌, ◌-◌, ℕ, zero, suc, List, [], ◌∷◌, ◌++◌, length, Some, refl}
-use Rattle.std.proofs.Common.{sym, ap, subst, ◌∙◌, arith}
+use Rattle.std.proofs.Common.{◌≡◌, ◌<◌, ◌-◌, ℕ, zero, suc, Bool, false, List, [], ◌∷◌, ◌++◌, length}
+use Rattle.std.proofs.Common.{None, Some, refl, sym, ap, subst, ◌∙◌, arith}
 use Rattle.std.specs.Prelude.{All, slice_get, slice_index_or}
+use Rattle.std.specs.List.{list_all}
 use Rattle.std.specs.Option.{option_and_then, option_map}
 use Rattle.std.proofs.lemmas.List.Elements.{All-head, All-tail}
 use Rattle.std.proofs.lemmas.Option.{none-some, same_Some, slice_get_read}
 use Rattle.tko_text.specs.declared.request.Request.{Request}
 use Rattle.tko_keys.specs.KeysState.{DueKey, HavePlaces, KeySend, KeySlot, KeysCame, KeysState}
 use Rattle.tko_keys.specs.KeysState.{asked_first, asked_last, attempts_at, attempts_last}
-use Rattle.tko_keys.specs.KeysState.{attempts_of, first_send, key_places_in, keys_first, request_of}
+use Rattle.tko_keys.specs.KeysState.{attempts_of, first_send, has_next_at, has_next_first}
+use Rattle.tko_keys.specs.KeysState.{has_next_sent, key_places_in, keys_first, request_of}
 use Rattle.tko_keys.proofs.OutLemmas.{all_split, due_places, send_places}
 
 send_within : (P : ℕ → Type 0) (sends : List KeySend) (i : ℕ) (send : KeySend)
@@ -61,6 +63,20 @@ pub first_keys : {state old : KeysState} {send : KeySend} {count : ℕ} (server 
 first_keys {state} server same at is =
     sym (ap (keys_first server) same) ∙ ap (option_map (λ (k : KeySend). length k.places)) at
     ∙ ap Some (sym is)
+
+-- whether each key of the first request has another target
+pub first_next : {state old : KeysState} {send : KeySend} {answer : Bool} (server : ℕ)
+    → state ≡ old → first_send server state.sends ≡ Some send
+    → answer ≡ list_all (has_next_at state.slots) send.places
+    → answer ≡ has_next_first server old
+first_next {state} server same at is =
+    is ∙ sym (ap (has_next_sent state.slots) at) ∙ ap (has_next_first server) same
+
+pub none_next : {state old : KeysState} (server : ℕ) → state ≡ old
+    → first_send server state.sends ≡ None
+    → false ≡ has_next_first server old
+none_next {state} server same none =
+    sym (ap (has_next_sent state.slots) none) ∙ ap (has_next_first server) same
 
 due_within : (P : ℕ → Type 0) (due : List DueKey) (i : ℕ) (it : DueKey) → slice_get due i ≡ Some it
     → All P (due_places due) → P it.place

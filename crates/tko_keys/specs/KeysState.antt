@@ -2,12 +2,12 @@
 use Rattle.std.specs.Prelude.{◌≡◌, ◌≢◌, ◌<◌, ◌+◌, ◌==◌, ℕ, Bool, true, false, not, List, [], ◌∷◌}
 use Rattle.std.specs.Prelude.{◌++◌, Option, Some, None, find, flat_map, length, map, slice_get, All}
 use Rattle.std.specs.Prelude.{sum_by, ◌-◌}
-use Rattle.std.specs.List.{prefix_len}
+use Rattle.std.specs.List.{list_all, prefix_len}
 use Rattle.std.specs.Option.{option_and_then, option_map}
 use Rattle.tko_model.specs.declared.mark.Reply.{Reply}
 use Rattle.tko_links.specs.declared.links.Outcome.{Outcome}
 use Rattle.tko_text.specs.declared.request.Request.{Request}
-use Rattle.tko_route.specs.Underway.{Awaited}
+use Rattle.tko_route.specs.Underway.{Awaited, has_next}
 use Rattle.tko_route.specs.declared.attempt.Attempt.{Attempt}
 use Rattle.tko_reply.specs.Answering.{retrieval}
 use Rattle.tko_reply.specs.Replies.{end_line}
@@ -214,3 +214,28 @@ attempts_at slots it = option_map (λ slot. attempts_of slot.awaited) (slice_get
 abbrev pub attempts_last : KeysState → Option (List Attempt)
 attempts_last state =
     option_and_then (attempts_at state.slots) (slice_get state.due (length state.due - 1))
+
+-- another of these targets is left after the server that a key waits for
+abbrev pub has_next_with : Option Awaited → List ℕ → Bool
+has_next_with None targets = false
+has_next_with (Some awaited) targets = has_next awaited targets
+
+abbrev pub has_next_target : KeySlot → Bool
+has_next_target slot = has_next_with slot.awaited slot.targets
+
+-- the key of this place was begun, and has another target
+abbrev pub has_next_found : Option KeySlot → Bool
+has_next_found None = false
+has_next_found (Some slot) = has_next_target slot
+
+abbrev pub has_next_at : List KeySlot → ℕ → Bool
+has_next_at slots place = has_next_found (slice_get slots place)
+
+-- there is such a request, and each of its keys has another target
+abbrev pub has_next_sent : List KeySlot → Option KeySend → Bool
+has_next_sent slots None = false
+has_next_sent slots (Some send) = list_all (has_next_at slots) send.places
+
+-- a request is under way to a server, and each key of the first one has another target
+abbrev pub has_next_first : ℕ → KeysState → Bool
+has_next_first server state = has_next_sent state.slots (first_send server state.sends)

@@ -5,7 +5,7 @@ ghost use Rattle.tko_route.specs.Routing.{GoesOn, told_of};
 ghost use Rattle.tko_route.specs.Trail.{op_of};
 ghost use Rattle.tko_route.specs.Underway.{Awaited};
 ghost use Rattle.tko_reply.specs.Cuts.{KeyLost};
-ghost use Rattle.tko_keys.specs.KeysState.{has_failed, has_values};
+ghost use Rattle.tko_keys.specs.KeysState.{has_failed, has_next_target, has_values};
 ghost use Rattle.tko_keys.specs.SlotCalls.{CanGoOn, IsAnyOut, PartDropped, PartTaken, SlotBegun};
 ghost use Rattle.tko_keys.specs.SlotCalls.{SlotDropped, SlotTaken, fresh_slot, wait_at};
 ghost use Rattle.tko_keys.specs.Steps.{said_by, slot_step};
@@ -186,6 +186,16 @@ impl Slot {
         match &self.awaited {
             Some(awaited) => awaited.attempts().len(),
             None => 0,
+        }
+    }
+
+    /// Whether the key has another target after the server that it waits for.
+    pub(crate) fn has_next_target(&self) -> bool
+        ensures { result ≡ has_next_target self.now }
+    {
+        match &self.awaited {
+            Some(awaited) => awaited.has_next(self.targets.as_slice()),
+            None => false,
         }
     }
 

@@ -9,6 +9,7 @@ ghost use Rattle.tko_route.specs.Calls.{RoutedCall};
 ghost use Rattle.tko_route.specs.Routing.{FindsUp, GoesOn, IsAwaited, IsBrought, IsUnbegun};
 ghost use Rattle.tko_route.specs.Routing.{MayTryOn, Reached, came_of, last_place, tries};
 ghost use Rattle.tko_route.specs.Trail.{MakesTrail, form_at};
+ghost use Rattle.tko_route.specs.Underway.{has_next};
 ghost use Rattle.tko_text.specs.SentRequests.{without_noreply};
 ghost use Rattle.tko_text.specs.declared.request.Request.{Request};
 
@@ -95,6 +96,13 @@ impl AwaitedSend {
         ensures { result.now ≡ self.now.attempts }
     {
         self.attempts.as_slice()
+    }
+
+    /// Whether another of these targets is left after this send.
+    pub fn has_next(&self, targets: &[usize]) -> bool
+        ensures { result ≡ has_next self.now targets.now }
+    {
+        self.attempts.len() + 1 < targets.len()
     }
 
     /// Records what came of the send, and goes on to the next target unless it was answered.

@@ -1,5 +1,6 @@
 -- What a session is at, from the key of the request that it answers.
-use Rattle.std.specs.Prelude.{List, [], Option, Some, None}
+use Rattle.std.specs.Prelude.{ℕ, Bool, false, List, [], Option, Some, None}
+use Rattle.tko_route.specs.Underway.{has_next}
 use Rattle.tko_route.specs.declared.attempt.Attempt.{Attempt}
 use Rattle.tko_reply.specs.Standing.{SentKey, asking}
 use Rattle.tko_reply.specs.declared.asking.OneKey.{OneKey}
@@ -57,3 +58,8 @@ ended_in HandedOver = None
 abbrev pub attempts_in : Work → List Attempt
 attempts_in (Awaits it) = it.awaited.attempts
 attempts_in _ = []
+
+-- a send is out, and another of these targets is left after it
+abbrev pub has_next_in : Work → List ℕ → Bool
+has_next_in (Awaits it) targets = has_next it.awaited targets
+has_next_in _ targets = false

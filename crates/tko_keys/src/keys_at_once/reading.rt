@@ -1,7 +1,9 @@
 //! What is due and under way: requests, and the attempts before them.
-ghost use Rattle.std.specs.Prelude.{◌≡◌, ◌≢◌, IsSome, Some, []};
+ghost use Rattle.std.specs.Prelude.{◌≡◌, ◌≢◌, IsSome, Some, [], drop};
+ghost use Rattle.std.specs.List.{list_all};
 ghost use Rattle.tko_keys.specs.KeysState.{HavePlaces, asked_first, asked_last, attempts_last};
-ghost use Rattle.tko_keys.specs.KeysState.{first_send, keys_first, request_of};
+ghost use Rattle.tko_keys.specs.KeysState.{first_send, has_next_at, has_next_first, keys_first};
+ghost use Rattle.tko_keys.specs.KeysState.{request_of};
 
 use super::KeysAtOnce;
 use super::places::index_of;
@@ -41,6 +43,18 @@ impl KeysAtOnce {
         self.sends[index].keys()
     }
 
+    /// Whether a request is under way to a server, and each key of the first one has another target
+    /// after it. A request for several keys goes on as a whole, so one key at its last target keeps
+    /// it there.
+    pub fn has_next_to(&self, server: usize) -> bool
+        ensures { result ≡ has_next_first server self.now }
+    {
+        match index_of(&self.sends, server) {
+            Some(index) => have_next(&self.slots, &self.sends[index]),
+            None => false,
+        }
+    }
+
     /// The attempts at the key that was due last, before the server where it is due.
     pub fn attempts(&self) -> &[Attempt]
         requires { self.now.due ≢ [] }
@@ -65,5 +79,32 @@ fn request_of<'a>(slots: &'a [Slot], send: &'a UnderWay) -> &'a Request
             let slot = &slots[send.first];
             slot.key.request()
         }
+    }
+}
+
+/// Whether each key of a request under way has another target.
+fn have_next(slots: &[Slot], send: &UnderWay) -> bool
+    ensures { result ≡ list_all (has_next_at slots.now) send.now.places }
+{
+    has_next_at(slots, send.first) && others_have_next(slots, send)
+}
+
+/// The same, of its keys beside the first one.
+fn others_have_next(slots: &[Slot], send: &UnderWay) -> bool
+    ensures { result ≡ list_all (has_next_at slots.now) (drop 1 send.now.places) }
+{
+    match &send.line {
+        Some(line) => line.others.iter().all(|place| has_next_at(slots, *place)),
+        None => true,
+    }
+}
+
+/// Whether the key of this place was begun, and has another target.
+fn has_next_at(slots: &[Slot], place: usize) -> bool
+    ensures { result ≡ has_next_at slots.now place }
+{
+    match slots.get(place) {
+        Some(slot) => slot.has_next_target(),
+        None => false,
     }
 }

@@ -1,7 +1,8 @@
-//! A session whose send is out: the server that it is out to, and the attempts before it.
+//! A session whose send is out: the server that it is out to, the attempts before it, and whether
+//! a target is left after it.
 ghost use Rattle.std.specs.Prelude.{◌≡◌};
 ghost use Rattle.tko_session.specs.Awaiting.{awaited_in};
-ghost use Rattle.tko_session.specs.Working.{attempts_in};
+ghost use Rattle.tko_session.specs.Working.{attempts_in, has_next_in};
 
 use super::{KeyAtWork, KeyWait, Session, SessionWork};
 use tko_route::Attempt;
@@ -34,6 +35,21 @@ impl Session {
                 },
             ) => awaited.attempts(),
             _ => &[],
+        }
+    }
+
+    /// Whether a send is out, and the key that it is for has another target after it.
+    pub fn has_next_target(&self) -> bool
+        ensures { result ≡ has_next_in self.now.work self.now.targets }
+    {
+        match &self.work {
+            SessionWork::Key(
+                KeyAtWork {
+                    key: _,
+                    wait: KeyWait::Sent(awaited),
+                },
+            ) => awaited.has_next(&self.targets),
+            _ => false,
         }
     }
 }
