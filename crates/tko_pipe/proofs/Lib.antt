@@ -1,5 +1,13 @@
+mod FormLemmas
+mod GivingLemmas
+mod GoneLemmas
+mod KeptLemmas
+mod LawLemmas
+mod LeadsLemmas
 mod LeavingLemmas
 mod LifeLemmas
 mod PipeLemmas
 mod ProgressLemmas
 mod QueueLemmas
+mod QuittingLemmas
+mod WaiterLemmas

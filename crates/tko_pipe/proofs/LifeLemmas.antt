@@ -1,77 +1,30 @@
 -- What the items of a connection mean, by induction on them.
-use Rattle.std.proofs.Common.{◌≡◌, ℕ, ◌+◌, ◌≤◌, ◌⊎◌, inl, inr, List, [], ◌∷◌, ◌++◌, sym, ap, subst}
+use Rattle.std.proofs.Common.{◌≡◌, ℕ, ◌+◌, ◌≤◌, inr, List, [], ◌∷◌, ◌++◌, sym, ap, subst}
 use Rattle.std.proofs.Common.{◌∙◌, arith, length, length-append, append_assoc, append-nil, map}
 use Rattle.std.specs.Prelude.{All, flat_map}
 use Rattle.std.proofs.lemmas.List.Sums.{sum_by-append, sum_by-cons}
 use Rattle.std.proofs.lemmas.List.Elements.{All-cons, All-nil}
-use Rattle.tko_model.specs.Records.{Gains, Lead}
+use Rattle.tko_model.specs.Records.{Lead}
 use Rattle.tko_model.proofs.RecordLemmas.{gains_none}
+use Rattle.tko_text.specs.declared.request.Request.{Request}
 use Rattle.tko_text.specs.Requests.{request_text}
 use Rattle.tko_pipe.specs.declared.waiter.Waiter.{Waiter}
 use Rattle.tko_pipe.specs.Fates.{fates_of, leaving}
-use Rattle.tko_pipe.specs.Lives.{Got, IsEnd, IsLife, IsPipeStep, IsTakenResponse, Left, PipeItem, Pushed}
-use Rattle.tko_pipe.specs.Lives.{Took, WasConnected, WasShut, Wrote, answered_in, askers_in}
-use Rattle.tko_pipe.specs.Lives.{bytes_read_in, heard_after, left_in, responses_in, texts_in, took_in}
-use Rattle.tko_pipe.specs.Lives.{unanswered_in, unread_dropped, unwritten_dropped, written_in}
-use Rattle.tko_pipe.specs.Pipes.{IsLive, PipeState, lengths_of, opened_pipe}
+use Rattle.tko_pipe.specs.Lives.{GaveUp, Got, IsPipeStep, IsTakenResponse, Left, PipeItem}
+use Rattle.tko_pipe.specs.Lives.{Pushed, Took, WasConnected, WasShut, Wrote, answered_in, askers_in}
+use Rattle.tko_pipe.specs.Lives.{bytes_read_in, form_kept_in, forms_dropped, forms_kept, forms_used}
+use Rattle.tko_pipe.specs.Lives.{heard_after, left_in, quitters_in, responses_in, texts_in, took_in}
+use Rattle.tko_pipe.specs.Lives.{unread_dropped, unwritten_dropped, written_in}
+use Rattle.tko_pipe.specs.Pipes.{IsLive, PipeState}
+use Rattle.tko_pipe.specs.Waiters.{all_as_asked, as_asked, gone, gone_if, gone_of, has_gone}
+use Rattle.tko_pipe.specs.Waiters.{is_first_gone, lengths_of}
+use Rattle.tko_pipe.proofs.GoneLemmas.{given_asked, given_gone, pushed_asked, pushed_gone}
+use Rattle.tko_pipe.proofs.GoneLemmas.{taken_forms}
+use Rattle.tko_pipe.proofs.KeptLemmas.{given-lengths}
+use Rattle.tko_pipe.proofs.LeadsLemmas.{Leads, all_dropped, end_after, leads_none, to_front}
 use Rattle.tko_pipe.proofs.LeavingLemmas.{leaves}
-use Rattle.tko_pipe.proofs.ProgressLemmas.{time_spent}
 
--- what the items lead to, from a connection that was not shut
-record Leads (old : PipeState) (items : List PipeItem) (new : PipeState) : Type 0 where
-  queue : old.waiters ++ askers_in items
-      ≡ answered_in items ++ unanswered_in items ++ new.waiters
-  written : old.unwritten ++ texts_in items
-      ≡ written_in items ++ unwritten_dropped items ++ new.unwritten
-  read : old.unread ++ bytes_read_in items ≡ responses_in items ++ unread_dropped items ++ new.unread
-  answers : All IsTakenResponse (flat_map took_in items)
-  asked_first : length old.unwritten ≤ lengths_of old.waiters
-      → lengths_of (answered_in items) + length old.unwritten
-      ≤ length (written_in items) + lengths_of old.waiters
-  heard : new.heard ≡ heard_after old.heard items
-  end : IsLive new.link ⊎ IsEnd old items new
-
-leads_none : (old new : PipeState) → IsLive old.link → new ≡ old → Leads old [] new
-leads_none old new live e = record {
-  queue = append-nil old.waiters ∙ sym (ap (λ (s : PipeState). s.waiters) e);
-  written = append-nil old.unwritten ∙ sym (ap (λ (s : PipeState). s.unwritten) e);
-  read = append-nil old.unread ∙ sym (ap (λ (s : PipeState). s.unread) e);
-  answers = All-nil IsTakenResponse;
-  asked_first = λ within. omega (arith, within);
-  heard = ap (λ (s : PipeState). s.heard) e;
-  end = inl (subst (λ (s : PipeState). IsLive s.link) (sym e) live);
-}
-
--- the end is where it was, with one item more before it
-end_after : (old mid new : PipeState) (item : PipeItem) (items : List PipeItem)
-    → IsPipeStep old item mid → IsLive new.link ⊎ IsEnd mid items new
-    → IsLive new.link ⊎ IsEnd old (item ∷ items) new
-end_after old mid new item items step (inl live) = inl live
-end_after old mid new item items step (inr is) = inr (record {
-  before = item ∷ is.before;
-  last = is.last;
-  it = is.it;
-  left = is.left;
-  items_are = ap (λ (xs : List PipeItem). item ∷ xs) is.items_are;
-  leads = record { leads = (mid, step, is.leads.leads) };
-  live = is.live;
-  cause = is.cause;
-  fates = is.fates;
-})
-
-to_front : (xs one two three : List ℕ)
-    → xs ++ (one ++ two ++ three) ≡ (xs ++ one) ++ two ++ three
-to_front xs one two three =
-    sym (append_assoc xs (one ++ two) three)
-    ∙ ap (λ (w : List ℕ). w ++ three) (sym (append_assoc xs one two))
-
--- all that there was is dropped
-all_dropped : (old it more front dropped new : List ℕ) → more ≡ [] → front ≡ [] → dropped ≡ []
-    → new ≡ [] → it ≡ old → old ++ more ≡ front ++ (it ++ dropped) ++ new
-all_dropped old it more front dropped new a b c d e =
-    rw (a, b, c, d, e) (sym (append-nil (old ++ [])))
-
-leads : (old new : PipeState) (items : List PipeItem) → IsLive old.link
+pub leads : (old new : PipeState) (items : List PipeItem) → IsLive old.link
     → Lead IsPipeStep old items new → Leads old items new
 leads old new [] live e = leads_none old new live e
 leads old new (WasConnected ∷ items) live (mid, step, more) =
@@ -79,7 +32,11 @@ leads old new (WasConnected ∷ items) live (mid, step, more) =
     (subst (λ (s : PipeState). IsLive s.link) (sym step.state) tt) more in
     let same = step.state in
     record {
-      queue = ap (λ (s : PipeState). s.waiters ++ askers_in items) (sym same) ∙ rest.queue;
+      queue = ap (λ (s : PipeState). all_as_asked s.waiters ++ askers_in items) (sym step.state)
+          ∙ rest.queue;
+      quitters = ap (λ (s : PipeState). gone_of s.waiters ++ quitters_in items) (sym step.state)
+          ∙ rest.quitters;
+      forms = ap (λ (s : PipeState). s.forms ++ forms_kept items) (sym step.state) ∙ rest.forms;
       written = ap (λ (s : PipeState). s.unwritten ++ texts_in items) (sym same) ∙ rest.written;
       read = ap (λ (s : PipeState). s.unread ++ bytes_read_in items) (sym same) ∙ rest.read;
       answers = rest.answers;
@@ -105,8 +62,11 @@ leads old new (Pushed it ∷ items) live (mid, step, more) =
     let len : length mid.unwritten ≡ length old.unwritten + length text =
     ap length unwritten ∙ length-append old.unwritten text in
     record {
-      queue = sym (append_assoc old.waiters (it.waiter ∷ []) (askers_in items))
-          ∙ ap (λ (w : List Waiter). w ++ askers_in items) (sym waiters) ∙ rest.queue;
+      queue = pushed_asked old.waiters mid.waiters it.waiter (askers_in items) step.here waiters
+          ∙ rest.queue;
+      quitters = ap (λ (w : List Waiter). w ++ quitters_in items)
+          (pushed_gone old.waiters mid.waiters it.waiter step.here waiters) ∙ rest.quitters;
+      forms = ap (λ (s : PipeState). s.forms ++ forms_kept items) (sym step.state) ∙ rest.forms;
       written = sym (append_assoc old.unwritten text (texts_in items))
           ∙ ap (λ (w : List ℕ). w ++ texts_in items) (sym unwritten) ∙ rest.written;
       read = ap (λ (s : PipeState). s.unread ++ bytes_read_in items) (sym step.state) ∙ rest.read;
@@ -127,7 +87,11 @@ leads old new (Wrote bytes ∷ items) live (mid, step, more) =
     let wrote : length (bytes ++ written_in items) ≡ length bytes + length (written_in items) =
     length-append bytes (written_in items) in
     record {
-      queue = ap (λ (w : List Waiter). w ++ askers_in items) (sym waiters) ∙ rest.queue;
+      queue = ap (λ (s : PipeState). all_as_asked s.waiters ++ askers_in items) (sym step.state)
+          ∙ rest.queue;
+      quitters = ap (λ (s : PipeState). gone_of s.waiters ++ quitters_in items) (sym step.state)
+          ∙ rest.quitters;
+      forms = ap (λ (s : PipeState). s.forms ++ forms_kept items) (sym step.state) ∙ rest.forms;
       written = ap (λ (w : List ℕ). w ++ texts_in items) step.front
           ∙ append_assoc bytes mid.unwritten (texts_in items)
           ∙ ap (λ (w : List ℕ). bytes ++ w) rest.written
@@ -148,7 +112,11 @@ leads old new (Got bytes now ∷ items) live (mid, step, more) =
     let same = step.state in
     let unread : mid.unread ≡ old.unread ++ bytes = ap (λ (s : PipeState). s.unread) same in
     record {
-      queue = ap (λ (s : PipeState). s.waiters ++ askers_in items) (sym same) ∙ rest.queue;
+      queue = ap (λ (s : PipeState). all_as_asked s.waiters ++ askers_in items) (sym step.state)
+          ∙ rest.queue;
+      quitters = ap (λ (s : PipeState). gone_of s.waiters ++ quitters_in items) (sym step.state)
+          ∙ rest.quitters;
+      forms = ap (λ (s : PipeState). s.forms ++ forms_kept items) (sym step.state) ∙ rest.forms;
       written = ap (λ (s : PipeState). s.unwritten ++ texts_in items) (sym same) ∙ rest.written;
       read = sym (append_assoc old.unread bytes (bytes_read_in items))
           ∙ ap (λ (w : List ℕ). w ++ bytes_read_in items) (sym unread) ∙ rest.read;
@@ -170,9 +138,20 @@ leads old new (Took it ∷ items) live (mid, step, more) =
     ≡ it.waiter.len + lengths_of (answered_in items) =
     sum_by-cons (λ one. one.len) it.waiter (answered_in items) in
     let len : length mid.unwritten ≡ length old.unwritten = ap length unwritten in
+    let gone_here = gone_if (has_gone it.waiter.by) it.waiter in
+    let forms : old.forms ≡ form_kept_in it ++ mid.forms =
+    taken_forms it.waiter.by it.request old.forms step.form
+    ∙ ap (λ (s : PipeState). form_kept_in it ++ s.forms) (sym step.state) in
     record {
-      queue = ap (λ (w : List Waiter). w ++ askers_in items) step.first
-          ∙ ap (λ (w : List Waiter). it.waiter ∷ w) rest.queue;
+      queue = ap (λ (w : List Waiter). all_as_asked w ++ askers_in items) step.first
+          ∙ ap (λ (w : List Waiter). as_asked it.waiter ∷ w) rest.queue;
+      quitters = ap (λ (w : List Waiter). gone_of w ++ quitters_in items) step.first
+          ∙ append_assoc gone_here (gone_of mid.waiters) (quitters_in items)
+          ∙ ap (λ (w : List Waiter). gone_here ++ w) rest.quitters;
+      forms = ap (λ (f : List Request). f ++ forms_kept items) forms
+          ∙ append_assoc (form_kept_in it) mid.forms (forms_kept items)
+          ∙ ap (λ (f : List Request). form_kept_in it ++ f) rest.forms
+          ∙ to_front (form_kept_in it) (forms_used items) (forms_dropped items) new.forms;
       written = ap (λ (w : List ℕ). w ++ texts_in items) (sym unwritten) ∙ rest.written;
       read = ap (λ (w : List ℕ). w ++ bytes_read_in items) step.front
           ∙ append_assoc it.bytes mid.unread (bytes_read_in items)
@@ -186,12 +165,52 @@ leads old new (Took it ∷ items) live (mid, step, more) =
       heard = rest.heard ∙ ap (λ (s : PipeState). heard_after s.heard items) step.state;
       end = end_after old mid new (Took it) items step rest.end;
     }
+leads old new (GaveUp it ∷ items) live (mid, step, more) =
+    let rest = leads mid new items
+    (subst (λ (s : PipeState). IsLive s.link) (sym step.state) live) more in
+    let moved = gone it.number it.waiter in
+    let waiters : mid.waiters ≡ it.before ++ moved ∷ it.after =
+    ap (λ (s : PipeState). s.waiters) step.state in
+    let forms : mid.forms ≡ old.forms ++ it.form ∷ [] = ap (λ (s : PipeState). s.forms) step.state in
+    let unwritten : mid.unwritten ≡ old.unwritten =
+    ap (λ (s : PipeState). s.unwritten) step.state in
+    let len : length mid.unwritten ≡ length old.unwritten = ap length unwritten in
+    let lengths : lengths_of mid.waiters ≡ lengths_of old.waiters =
+    ap lengths_of waiters ∙ given-lengths it.before it.after it.waiter it.number
+    ∙ sym (ap lengths_of step.waiters) in
+    record {
+      queue = ap (λ (w : List Waiter). w ++ askers_in items) (ap all_as_asked step.waiters
+          ∙ given_asked it.before it.after it.waiter it.number step.is_client
+          ∙ sym (ap all_as_asked waiters)) ∙ rest.queue;
+      quitters = sym (append_assoc (gone_of old.waiters) (moved ∷ []) (quitters_in items))
+          ∙ ap (λ (w : List Waiter). w ++ quitters_in items) (sym (given_gone old mid it step))
+          ∙ rest.quitters;
+      forms = sym (append_assoc old.forms (it.form ∷ []) (forms_kept items))
+          ∙ ap (λ (f : List Request). f ++ forms_kept items) (sym forms) ∙ rest.forms;
+      written = ap (λ (w : List ℕ). w ++ texts_in items) (sym unwritten) ∙ rest.written;
+      read = ap (λ (s : PipeState). s.unread ++ bytes_read_in items) (sym step.state) ∙ rest.read;
+      answers = rest.answers;
+      asked_first = λ within.
+          let now_within : length mid.unwritten ≤ lengths_of mid.waiters =
+          omega (arith, within, lengths, len) in
+          omega (arith, rest.asked_first now_within, lengths, len);
+      heard = rest.heard ∙ ap (λ (s : PipeState). heard_after s.heard items) step.state;
+      end = end_after old mid new (GaveUp it) items step rest.end;
+    }
 leads old new (WasShut it ∷ items) live (mid, step, more) =
-    let rest = leaves mid new items (fates_of old.link it.cause)
+    let rest = leaves mid new items (fates_of old.link (is_first_gone old.waiters) it.cause)
     (ap (λ (s : PipeState). s.link) step.state) more in
     let waiters : mid.waiters ≡ old.waiters = ap (λ (s : PipeState). s.waiters) step.state in
     record {
-      queue = rw (rest.pushed, rest.took) (append-nil old.waiters ∙ sym waiters ∙ rest.queue);
+      queue = rw (rest.pushed, rest.took) (append-nil (all_as_asked old.waiters)
+          ∙ ap all_as_asked (sym waiters ∙ rest.queue));
+      quitters = rw (rest.gave, rest.took) (append-nil (gone_of old.waiters)
+          ∙ ap gone_of (sym waiters ∙ rest.queue));
+      forms = all_dropped old.forms it.forms (forms_kept items) (forms_used items)
+          (forms_dropped items) new.forms (ap (λ xs. map (λ one. one.form) xs) rest.gave)
+          (ap (λ xs. flat_map form_kept_in xs) rest.took)
+          (ap (λ xs. flat_map (λ one. one.forms) xs) rest.was_shut)
+          (rest.forms ∙ ap (λ (s : PipeState). s.forms) step.state) step.forms;
       written = all_dropped old.unwritten it.unwritten (texts_in items) (written_in items)
           (unwritten_dropped items) new.unwritten
           (ap (λ xs. flat_map (λ one. request_text one.request) xs) rest.pushed) rest.wrote
@@ -217,23 +236,8 @@ leads old new (WasShut it ∷ items) live (mid, step, more) =
         leads = gains_none old;
         live = live;
         cause = step.cause;
-        fates = ap (leaving (fates_of old.link it.cause)) (sym waiters) ∙ rest.fates;
+        fates = ap (leaving (fates_of old.link (is_first_gone old.waiters) it.cause))
+            (sym waiters) ∙ rest.fates;
       });
     }
 leads old new (Left it ∷ items) live (mid, step, more) = absurd (subst IsLive step.shut live)
-
--- the law of a connection's life
-pub lives : (limit : ℕ) (items : List PipeItem) (state : PipeState)
-    → Gains IsPipeStep (opened_pipe limit) items state → IsLife limit items state
-lives limit items state gains =
-    let all = leads (opened_pipe limit) state items tt gains.leads in
-    record {
-      queue = all.queue;
-      written = all.written;
-      read = all.read;
-      answers = all.answers;
-      asked_first = omega (arith, all.asked_first (omega arith));
-      heard = all.heard;
-      end = all.end;
-      spent = time_spent limit items state;
-    }

@@ -9,7 +9,7 @@ use Rattle.tko_pipe.specs.declared.fates.ShutCause.{ShutCause}
 use Rattle.tko_pipe.specs.declared.fates.ShutCause.TheVariants.{EndOfInput, Fault, Silent, Late, Unreadable, Unasked, Memory, Lacking}
 use Rattle.tko_pipe.specs.declared.waiter.Waiter.{Waiter}
 use Rattle.tko_pipe.specs.declared.window.Window.{Window}
-use Rattle.tko_pipe.specs.Lives.{Got, HasNoProgress, IsEnd, IsPipeStep, IsTimeSpent, IsRecent, Left, PipeItem, Pushed}
+use Rattle.tko_pipe.specs.Lives.{GaveUp, Got, HasNoProgress, IsEnd, IsPipeStep, IsTimeSpent, IsRecent, Left, PipeItem, Pushed}
 use Rattle.tko_pipe.specs.Lives.{Took, WasConnected, WasShut, Wrote, bytes_read_in}
 use Rattle.tko_pipe.specs.Pipes.{IsCause, IsGot, PipeState, first_late, is_late, is_due_by, opened_pipe}
 use Rattle.tko_pipe.specs.Windows.{begun_window, late_after, later_after, limit_after, progress, read_window}
@@ -27,6 +27,8 @@ limit_stays old new (Wrote bytes ∷ items) (mid, step, more) =
 limit_stays old new (Got bytes now ∷ items) (mid, step, more) =
     limit_stays mid new items more ∙ ap (λ (s : PipeState). s.limit) step.state
 limit_stays old new (Took it ∷ items) (mid, step, more) =
+    limit_stays mid new items more ∙ ap (λ (s : PipeState). s.limit) step.state
+limit_stays old new (GaveUp it ∷ items) (mid, step, more) =
     limit_stays mid new items more ∙ ap (λ (s : PipeState). s.limit) step.state
 limit_stays old new (WasShut it ∷ items) (mid, step, more) =
     limit_stays mid new items more ∙ ap (λ (s : PipeState). s.limit) step.state
@@ -82,6 +84,9 @@ few_stays old new (Got bytes now ∷ items) few (mid, step, more) =
 few_stays old new (Took it ∷ items) few (mid, step, more) =
     few_stays mid new items
     (subst (λ (s : PipeState). s.window.came < progress) (sym step.state) few) more
+few_stays old new (GaveUp it ∷ items) few (mid, step, more) =
+    few_stays mid new items
+    (subst (λ (s : PipeState). s.window.came < progress) (sym step.state) few) more
 few_stays old new (WasShut it ∷ items) few (mid, step, more) =
     few_stays mid new items
     (subst (λ (s : PipeState). s.window.came < progress) (sym step.state) few) more
@@ -119,6 +124,9 @@ module _ (limit now : ℕ) where
       (λ less. was) here)) more
   fresh_stays old new (Took it ∷ items) within was (mid, step, more) =
       fresh_stays mid new items (All-tail (IsRecent limit now) (Took it) items within)
+      (subst (λ (s : PipeState). IsFresh limit now s.window.since) (sym step.state) was) more
+  fresh_stays old new (GaveUp it ∷ items) within was (mid, step, more) =
+      fresh_stays mid new items (All-tail (IsRecent limit now) (GaveUp it) items within)
       (subst (λ (s : PipeState). IsFresh limit now s.window.since) (sym step.state) was) more
   fresh_stays old new (WasShut it ∷ items) within was (mid, step, more) =
       fresh_stays mid new items (All-tail (IsRecent limit now) (WasShut it) items within)
@@ -170,6 +178,9 @@ module _ (limit now : ℕ) where
       omega (arith, rest, read, all)
   counts old new (Took it ∷ items) within (mid, step, more) stale =
       counts mid new items (All-tail (IsRecent limit now) (Took it) items within) more stale
+      ∙ ap (λ (s : PipeState). s.window.came + length (bytes_read_in items)) step.state
+  counts old new (GaveUp it ∷ items) within (mid, step, more) stale =
+      counts mid new items (All-tail (IsRecent limit now) (GaveUp it) items within) more stale
       ∙ ap (λ (s : PipeState). s.window.came + length (bytes_read_in items)) step.state
   counts old new (WasShut it ∷ items) within (mid, step, more) stale =
       counts mid new items (All-tail (IsRecent limit now) (WasShut it) items within) more stale

@@ -1,5 +1,5 @@
 -- What each call on a connection returns, and what it leaves.
-use Rattle.std.specs.Prelude.{◌≡◌, ◌⊎◌, ℕ, Bool, true, false, List, [], Option, Some, None, Result, Ok, Err}
+use Rattle.std.specs.Prelude.{◌≡◌, ◌⊎◌, ℕ, Bool, true, false, List, [], Option, Some, None, Result, Ok, Err, slice_get}
 use Rattle.tko_text.specs.declared.request.Request.{Request}
 use Rattle.tko_text.specs.declared.response.Response.{Response}
 use Rattle.tko_text.specs.declared.response.fault.ReadFault.TheVariants as fault
@@ -11,6 +11,7 @@ use Rattle.tko_pipe.specs.declared.fates.ShutCause.{ShutCause}
 use Rattle.tko_pipe.specs.declared.fates.ShutCause.TheVariants.{Silent, Late, Unreadable, Unasked, Memory}
 use Rattle.tko_pipe.specs.Fates.{Leaving}
 use Rattle.tko_pipe.specs.Lives.{leaving_in}
+use Rattle.tko_pipe.specs.Waiters.{forms_after}
 use Rattle.tko_pipe.specs.Pipes.{IsGot, IsLeft, IsShut, IsTaken, PipeState, is_asked, is_first_written, is_late, shutting}
 
 -- after a read: the bytes wait to be taken; or the connection was shut, since nobody asked for
@@ -27,6 +28,12 @@ GotEnds old bytes now (Err _) new = ⊥
 abbrev pub IsChecked : Bool → PipeState → PipeState → Type 0
 IsChecked true mid new = new ≡ mid
 IsChecked false mid new = IsShut mid (shutting mid Unasked) new
+
+-- the first one is out, and what is left was asked for, or shuts the connection
+abbrev pub EndsFirst : PipeState → Waiter → List Waiter → PipeState → Type 0
+EndsFirst old waiter others new =
+    IsChecked (is_asked old.unread others old.unwritten)
+    (record old { waiters = others; forms = forms_after waiter.by old.forms }) new
 
 -- the first that waited was answered
 pub record IsFirstAnswered (old : PipeState) (request : Request) (by : Asker) (response : Response)
@@ -51,6 +58,13 @@ TakeEnds old request (Err Unreadable) new =
     × IsShut old (shutting old Unreadable) new
 TakeEnds old request (Err Memory) new = IsShut old (shutting old Memory) new
 TakeEnds old request (Err _) new = ⊥
+
+-- the same where the first gave up: its response is read by the first form
+pub record IsTakenByForm (old : PipeState)
+    (result : Result (Option (Asker × Response)) ShutCause) (new : PipeState) : Type 0 where
+  pub form : Request
+  pub is_form : slice_get old.forms 0 ≡ Some form
+  pub ends : TakeEnds old form result new
 
 -- what shuts a connection whose first response is late at this moment
 abbrev pub IsLateAt : ℕ → ShutCause → Type 0

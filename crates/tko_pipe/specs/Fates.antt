@@ -1,5 +1,7 @@
 -- What becomes of the requests whose responses had not come when their connection was shut.
-use Rattle.std.specs.Prelude.{Some, List, [], ◌∷◌, map, unwrap_or}
+use Rattle.std.specs.Prelude.{Bool, true, false, Some, None, List, [], ◌∷◌, unwrap_or}
+use Rattle.tko_pipe.specs.declared.waiter.Asker.{Asker}
+use Rattle.tko_pipe.specs.declared.waiter.Asker.TheVariants.{GaveUp}
 use Rattle.tko_pipe.specs.declared.waiter.Waiter.{Waiter}
 use Rattle.tko_pipe.specs.declared.fates.Fate.{Fate}
 use Rattle.tko_pipe.specs.declared.fates.Fate.TheVariants as fate
@@ -13,43 +15,55 @@ use Rattle.tko_pipe.specs.declared.link.Link.TheVariants.{Connecting}
 abbrev pub fates : Fate → Fate → Fates
 fates first behind = record { first = Some first; behind = behind }
 
+-- memory ran out for the first response: nobody's session ends for that where it gave up
+abbrev pub memory_fates : Bool → Fates
+memory_fates true = fates fate.Aborted fate.Aborted
+memory_fates false = fates fate.Memory fate.Aborted
+
 -- connected, and shut for this cause
-abbrev pub fates_connected : ShutCause → Fates
-fates_connected EndOfInput = fates fate.Broken fate.Aborted
-fates_connected Fault = fates fate.Broken fate.Aborted
-fates_connected (Silent now) = fates fate.Timeout fate.Timeout
-fates_connected (Late now) = fates fate.Timeout fate.Aborted
-fates_connected Unreadable = fates fate.Broken fate.Aborted
-fates_connected Unasked = fates fate.Broken fate.Aborted
-fates_connected Memory = fates fate.Memory fate.Aborted
-fates_connected Lacking = fates fate.Aborted fate.Aborted
+abbrev pub fates_connected : Bool → ShutCause → Fates
+fates_connected gone EndOfInput = fates fate.Broken fate.Aborted
+fates_connected gone Fault = fates fate.Broken fate.Aborted
+fates_connected gone (Silent now) = fates fate.Timeout fate.Timeout
+fates_connected gone (Late now) = fates fate.Timeout fate.Aborted
+fates_connected gone Unreadable = fates fate.Broken fate.Aborted
+fates_connected gone Unasked = fates fate.Broken fate.Aborted
+fates_connected gone Memory = memory_fates gone
+fates_connected gone Lacking = fates fate.Aborted fate.Aborted
 
 -- not yet connected, and shut for this cause
-abbrev pub fates_connecting : ShutCause → Fates
-fates_connecting Memory = fates fate.Memory fate.Aborted
-fates_connecting Lacking = fates fate.Aborted fate.Aborted
-fates_connecting _ = fates fate.Refused fate.Refused
+abbrev pub fates_connecting : Bool → ShutCause → Fates
+fates_connecting gone Memory = memory_fates gone
+fates_connecting gone Lacking = fates fate.Aborted fate.Aborted
+fates_connecting gone _ = fates fate.Refused fate.Refused
 
--- the table
-abbrev pub fates_of : Link → ShutCause → Fates
-fates_of Connecting cause = fates_connecting cause
-fates_of _ cause = fates_connected cause
+-- the table, of a connection whose first asker gave up or is there
+abbrev pub fates_of : Link → Bool → ShutCause → Fates
+fates_of Connecting gone cause = fates_connecting gone cause
+fates_of _ gone cause = fates_connected gone cause
 
 -- the fate of the first of those that are left
 abbrev pub next_fate : Fates → Fate
 next_fate left = unwrap_or left.first left.behind
+
+-- that of this one: one that gave up is not concerned
+abbrev pub fate_for : Asker → Fates → Fate
+fate_for (GaveUp number) left = fate.Aborted
+fate_for _ left = next_fate left
+
+-- the fates of those that follow this one
+abbrev pub fates_left : Asker → Fates → Fates
+fates_left (GaveUp number) left = left
+fates_left _ left = record left { first = None }
 
 -- one that waited, and its fate
 pub record Leaving : Type 0 where
   pub waiter : Waiter
   pub came : Fate
 
--- those that follow the first, each with its fate
-abbrev pub leaving_behind : Fate → List Waiter → List Leaving
-leaving_behind behind waiters = map (λ it. record { waiter = it; came = behind }) waiters
-
 -- those that are left, in order, each with its fate
 abbrev pub leaving : Fates → List Waiter → List Leaving
 leaving left [] = []
 leaving left (waiter ∷ others) =
-    record { waiter = waiter; came = next_fate left } ∷ leaving_behind left.behind others
+    record { waiter = waiter; came = fate_for waiter.by left }
+    ∷ leaving (fates_left waiter.by left) others

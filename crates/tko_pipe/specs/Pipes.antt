@@ -1,6 +1,6 @@
 -- One pipelined connection: requests are written one after another, and each response belongs to
 -- the first request that waits.
-use Rattle.std.specs.Prelude.{◌≡◌, ◌≤◌, nat_le, ℕ, ◌-◌, Bool, true, false, List, [], ◌∷◌, ◌++◌, length, sum_by, Option, Some, None}
+use Rattle.std.specs.Prelude.{◌≡◌, ◌≤◌, nat_le, ℕ, ◌-◌, Bool, true, false, List, [], ◌∷◌, ◌++◌, length, Option, Some, None}
 use Rattle.tko_text.specs.declared.request.Request.{Request}
 use Rattle.tko_text.specs.declared.response.Response.{Response}
 use Rattle.tko_text.specs.Requests.{request_text}
@@ -13,12 +13,13 @@ use Rattle.tko_pipe.specs.declared.fates.ShutCause.TheVariants.{Silent, Late}
 use Rattle.tko_pipe.specs.declared.link.Link.{Link}
 use Rattle.tko_pipe.specs.declared.link.Link.TheVariants.{Connecting, Connected, Shut}
 use Rattle.tko_pipe.specs.declared.window.Window.{Window}
-use Rattle.tko_pipe.specs.Fates.{Leaving, fates_of, next_fate}
+use Rattle.tko_pipe.specs.Fates.{Leaving, fate_for, fates_of, fates_left}
+use Rattle.tko_pipe.specs.Waiters.{IsReadBy, forms_after, has_gone, is_first_gone, lengths_of}
 use Rattle.tko_pipe.specs.Windows.{late_after, read_window, unbegun_window}
 
 -- the time limit, how far the connection is, who waits, what is not written of their requests'
--- texts, the bytes that no response was taken from, when the last bytes came, and since when how
--- many came
+-- texts, the bytes that no response was taken from, when the last bytes came, since when how many
+-- came, and what the responses to those that gave up are read by, in the order of the queue
 pub record PipeState : Type 0 where
   pub limit : ℕ
   pub link : Link
@@ -27,6 +28,7 @@ pub record PipeState : Type 0 where
   pub unread : List ℕ
   pub heard : Option ℕ
   pub window : Window
+  pub forms : List Request
 
 -- a connection that is being made
 abbrev pub opened_pipe : ℕ → PipeState
@@ -38,6 +40,7 @@ opened_pipe limit = record {
   unread = [];
   heard = None;
   window = unbegun_window;
+  forms = [];
 }
 
 -- the connection was not shut
@@ -51,10 +54,6 @@ abbrev pub MayBeUnread : Link → List ℕ → Type 0
 MayBeUnread Connecting unread = unread ≡ []
 MayBeUnread Connected unread = Unit {0}
 MayBeUnread (Shut left) unread = unread ≡ []
-
--- how long the texts of those that wait are
-abbrev pub lengths_of : List Waiter → ℕ
-lengths_of waiters = sum_by (λ it. it.len) waiters
 
 -- the first request was written wholly: what is unwritten are the texts of those that follow it
 abbrev pub is_first_written : List Waiter → List ℕ → Bool
@@ -109,11 +108,12 @@ pub record Taking : Type 0 where
   pub response : Response
   pub bytes : List ℕ
 
--- why a connection was shut, and the bytes that were dropped with it
+-- why a connection was shut, and the bytes and the forms that were dropped with it
 pub record Shutting : Type 0 where
   pub cause : ShutCause
   pub unwritten : List ℕ
   pub unread : List ℕ
+  pub forms : List Request
 
 -- an entry for this request
 abbrev pub pushing : Asker → ℕ → Request → Pushing
@@ -130,6 +130,7 @@ pub record IsConnected (old new : PipeState) : Type 0 where
 -- somebody waits behind the others, and the text of the request is to be written behind theirs
 pub record IsPushed (old : PipeState) (it : Pushing) (new : PipeState) : Type 0 where
   pub live : IsLive old.link
+  pub here : has_gone it.waiter.by ≡ false
   pub len : it.waiter.len ≡ length (request_text it.request)
   pub state : new ≡ record old {
     waiters = old.waiters ++ it.waiter ∷ [];
@@ -153,24 +154,37 @@ pub record IsGot (old : PipeState) (bytes : List ℕ) (now : ℕ) (new : PipeSta
   }
 
 -- the first that waited had its request written wholly, and the response to this request was at the
--- front
+-- front; where it gave up, this is the first of the forms
 pub record IsTaken (old : PipeState) (it : Taking) (new : PipeState) : Type 0 where
   pub connected : old.link ≡ Connected
   pub first : old.waiters ≡ it.waiter ∷ new.waiters
   pub written : length old.unwritten ≤ lengths_of new.waiters
   pub front : old.unread ≡ it.bytes ++ new.unread
   pub response : IsResponse it.request it.bytes it.response
-  pub state : new ≡ record old { waiters = new.waiters; unread = new.unread }
+  pub form : IsReadBy it.waiter.by it.request old.forms
+  pub state : new ≡ record old {
+    waiters = new.waiters;
+    unread = new.unread;
+    forms = forms_after it.waiter.by old.forms;
+  }
 
 -- the connection as this cause leaves it
 abbrev pub shut_by : PipeState → ShutCause → PipeState
-shut_by old cause =
-    record old { link = Shut (fates_of old.link cause); unwritten = []; unread = [] }
+shut_by old cause = record old {
+  link = Shut (fates_of old.link (is_first_gone old.waiters) cause);
+  unwritten = [];
+  unread = [];
+  forms = [];
+}
 
 -- what is dropped with a connection that is shut for this cause
 abbrev pub shutting : PipeState → ShutCause → Shutting
-shutting old cause =
-    record { cause = cause; unwritten = old.unwritten; unread = old.unread }
+shutting old cause = record {
+  cause = cause;
+  unwritten = old.unwritten;
+  unread = old.unread;
+  forms = old.forms;
+}
 
 -- the connection was shut
 pub record IsShut (old : PipeState) (it : Shutting) (new : PipeState) : Type 0 where
@@ -178,6 +192,7 @@ pub record IsShut (old : PipeState) (it : Shutting) (new : PipeState) : Type 0 w
   pub cause : IsCause old it.cause
   pub unwritten : it.unwritten ≡ old.unwritten
   pub unread : it.unread ≡ old.unread
+  pub forms : it.forms ≡ old.forms
   pub state : new ≡ shut_by old it.cause
 
 -- of those whose connection was shut the first left
@@ -185,8 +200,8 @@ pub record IsLeft (old : PipeState) (it : Leaving) (new : PipeState) : Type 0 wh
   pub left : Fates
   pub shut : old.link ≡ Shut left
   pub first : old.waiters ≡ it.waiter ∷ new.waiters
-  pub came : it.came ≡ next_fate left
+  pub came : it.came ≡ fate_for it.waiter.by left
   pub state : new ≡ record old {
     waiters = new.waiters;
-    link = Shut (record left { first = None });
+    link = Shut (fates_left it.waiter.by left);
   }

@@ -1,8 +1,8 @@
 //! Why a connection was shut, and what that makes of the requests whose responses had not come.
 ghost use Rattle.std.specs.Prelude.{◌≡◌, Some, None};
-ghost use Rattle.tko_pipe.specs.Fates.{fates, fates_of, next_fate};
+ghost use Rattle.tko_pipe.specs.Fates.{fate_for, fates, fates_of, fates_left, memory_fates, next_fate};
 
-use crate::Link;
+use crate::{Asker, Link};
 
 /// Why a connection was shut.
 #[derive(Clone, Copy, Debug, PartialEq, Eq)]
@@ -46,7 +46,7 @@ pub enum Fate {
 /// What becomes of the requests that a connection leaves.
 #[derive(Clone, Copy, Debug, PartialEq, Eq)]
 pub struct Fates {
-    /// That of the first of them, until it was handed out.
+    /// That of the first of them that did not give up, until it was handed out.
     pub first: Option<Fate>,
     /// That of each that follows it.
     pub behind: Fate,
@@ -63,12 +63,13 @@ impl Fates {
         }
     }
 
-    /// The table: a connection that was this far is shut for this cause.
-    pub fn of(link: Link, cause: ShutCause) -> Fates
-        ensures { result ≡ fates_of link cause }
+    /// The table: a connection that was this far, whose first asker gave up or is there, is shut
+    /// for this cause.
+    pub fn of(link: Link, is_first_gone: bool, cause: ShutCause) -> Fates
+        ensures { result ≡ fates_of link is_first_gone cause }
     {
         match (link, cause) {
-            (_, ShutCause::Memory) => Fates::new(Fate::Memory, Fate::Aborted),
+            (_, ShutCause::Memory) => Fates::of_memory(is_first_gone),
             (_, ShutCause::Lacking) => Fates::new(Fate::Aborted, Fate::Aborted),
             (Link::Connecting, _) => Fates::new(Fate::Refused, Fate::Refused),
             (_, ShutCause::Silent(_)) => Fates::new(Fate::Timeout, Fate::Timeout),
@@ -80,15 +81,49 @@ impl Fates {
         }
     }
 
-    /// The fate of the next request that leaves.
+    /// Memory ran out for the first response, which is nobody's where its asker gave up.
+    fn of_memory(is_first_gone: bool) -> Fates
+        ensures { result ≡ memory_fates is_first_gone }
+    {
+        if is_first_gone {
+            Fates::new(Fate::Aborted, Fate::Aborted)
+        } else {
+            Fates::new(Fate::Memory, Fate::Aborted)
+        }
+    }
+
+    /// The fate of the next request that leaves, if its asker is there.
     pub fn fate(self) -> Fate
         ensures { result ≡ next_fate self }
     {
         self.first.unwrap_or(self.behind)
     }
 
-    /// The same once the first request has left.
-    pub(crate) fn without_first(self) -> Fates
+    /// The fate of the next request that leaves, which this one asked. One that gave up is not
+    /// concerned.
+    pub(crate) fn fate_for(self, by: Asker) -> Fate
+        ensures { result ≡ fate_for by self }
+    {
+        match by {
+            Asker::GaveUp(_) => Fate::Aborted,
+            Asker::Client(_) => self.fate(),
+            Asker::Probe => self.fate(),
+        }
+    }
+
+    /// The same once this one's request has left.
+    pub(crate) fn after(self, by: Asker) -> Fates
+        ensures { result ≡ fates_left by self }
+    {
+        match by {
+            Asker::GaveUp(_) => self,
+            Asker::Client(_) => self.without_first(),
+            Asker::Probe => self.without_first(),
+        }
+    }
+
+    /// The same once the first fate was handed out.
+    fn without_first(self) -> Fates
         ensures { result ≡ record self { first = None } }
     {
         Fates {

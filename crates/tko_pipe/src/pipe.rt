@@ -1,23 +1,28 @@
 //! The requests on one connection, and the responses to them.
-ghost use Rattle.std.specs.Prelude.{◌≡◌, ◌≤◌, ◌<◌, ℕ, List, [], if◌then◌else◌, OnOk, OnErr, length, take, slice_get};
+ghost use Rattle.std.specs.Prelude.{◌≡◌, ◌≤◌, ◌<◌, OnOk, OnErr, false, length, take, slice_get};
 ghost use Rattle.std.specs.Option.{option_copied};
-ghost use Rattle.tko_pipe.specs.Ends.{ExpireEnds, GotEnds, LeaveEnds, TakeEnds};
-ghost use Rattle.tko_pipe.specs.Fates.{fates_of};
-ghost use Rattle.tko_pipe.specs.Pipes.{IsCause, IsConnected, IsLive, IsPushed, IsShut, IsWritten, is_asked, is_first_written, is_silent, late_at, lengths_of, opened_pipe, pushing, shutting};
+ghost use Rattle.tko_pipe.specs.Ends.{ExpireEnds, GotEnds, LeaveEnds};
+ghost use Rattle.tko_pipe.specs.Pipes.{IsCause, IsConnected, IsLive, IsPushed, IsShut, IsWritten, is_silent, late_at, opened_pipe, pushing, shutting};
+ghost use Rattle.tko_pipe.specs.Waiters.{has_gone};
+
+mod giving;
+mod taking;
 
 use crate::byte_queue::ByteQueue;
+use crate::waiters::{is_first_gone, is_first_written};
 use crate::{Asker, Fate, Fates, Link, ShutCause, Waiter, Window};
 use std::alloc::Global;
 use std::collections::VecDeque;
 use std::marker::Model;
-use tko_text::{NoMemory, ReadFault, Request, Response};
+use tko_text::{NoMemory, Request};
 
 /// One connection to a server, from connecting until it was shut and all that waited have left. The
 /// k-th response that comes is that to the k-th request.
 ///
-/// After each read the caller calls `got`, and then `take` until that returns `None`; after each
-/// write `wrote`, and as time passes `expire`. Once the connection was shut, it closes its socket
-/// and calls `leave` until that returns `None`.
+/// After each read the caller calls `got`, and then `take`, or `take_dropped` where the first one
+/// gave up, until that returns `None`; after each write `wrote`, and as time passes `expire`, and
+/// `give_up` for those that `overdue` finds. Once the connection was shut, it closes its socket and
+/// calls `leave` until that returns `None`.
 #[derive(Drop)]
 pub struct Pipe {
     /// How long a response may take, in milliseconds.
@@ -32,11 +37,14 @@ pub struct Pipe {
     /// When bytes came last.
     heard: Option<u64>,
     window: Window,
+    /// What the responses to those that gave up are read by, in the order of the queue.
+    forms: VecDeque<Request>,
 }
 
 impl Model for Pipe {
     ghost use Rattle.std.specs.Prelude.{◌≡◌, true};
-    ghost use Rattle.tko_pipe.specs.Pipes.{MayBeUnread, PipeState, is_asked, lengths_of};
+    ghost use Rattle.tko_pipe.specs.Pipes.{MayBeUnread, PipeState, is_asked};
+    ghost use Rattle.tko_pipe.specs.Waiters.{HasForms, lengths_of};
 
     ghost Value = { PipeState };
 
@@ -48,11 +56,13 @@ impl Model for Pipe {
       unread = p.unread;
       heard = p.heard;
       window = p.window;
+      forms = p.forms.items;
     } };
 
     ghost invariant = { λ p. (p.queued ≡ lengths_of p.waiters.items)
         × (is_asked p.unread p.waiters.items p.unwritten ≡ true)
-        × MayBeUnread p.link p.unread };
+        × MayBeUnread p.link p.unread
+        × HasForms p.link p.waiters.items p.forms.items };
 }
 
 impl Pipe {
@@ -69,6 +79,7 @@ impl Pipe {
             unread: ByteQueue::new(alloc),
             heard: None,
             window: Window::unbegun(),
+            forms: VecDeque::new(alloc),
         }
     }
 
@@ -90,7 +101,8 @@ impl Pipe {
     /// A request is to be sent after the others, and the response to it is due at this moment. It
     /// must be one that the server answers, so without `noreply` and of one key at most.
     pub fn push(&mut self, by: Asker, due: u64, request: &Request) -> Result<(), NoMemory>
-        requires { IsLive self.old.link }
+        requires live { IsLive self.old.link }
+        requires here { has_gone by ≡ false }
         ensures ok { OnOk result (IsPushed self.old (pushing by due request.now) self.new) }
         ensures err { OnErr result (self.new ≡ self.old) }
     {
@@ -145,70 +157,19 @@ impl Pipe {
         Ok(())
     }
 
-    /// Who waits for the next response, or is the next to leave.
+    /// Who waits for the next response, or is the next to leave. The response to one that gave up
+    /// comes from `take_dropped`, and that to each other from `take`.
     pub fn first(&self) -> Option<&Waiter>
         ensures { option_copied result ≡ slice_get self.now.waiters 0 }
     {
         self.waiters.front()
     }
 
-    /// The response to the first request, which is lent, as soon as all of it was read. An `Err`
-    /// says that this shut the connection: what came is no response to it, or memory ran out. Bytes
-    /// that follow a response and that nobody asked for shut it too. On a connection that was shut
-    /// no response comes.
-    pub fn take(
-        &mut self,
-        alloc: Global,
-        request: &Request,
-    ) -> Result<Option<(Asker, Response)>, ShutCause>
-        ensures { TakeEnds self.old request.now result self.new }
+    /// The one at this place, from the front on.
+    pub fn waiter(&self, place: usize) -> Option<&Waiter>
+        ensures { option_copied result ≡ slice_get self.now.waiters place }
     {
-        match self.link {
-            Link::Connected => self.take_connected(alloc, request),
-            Link::Connecting => Ok(None),
-            Link::Shut(_) => Ok(None),
-        }
-    }
-
-    /// The same while the connection is there.
-    fn take_connected(
-        &mut self,
-        alloc: Global,
-        request: &Request,
-    ) -> Result<Option<(Asker, Response)>, ShutCause>
-        requires { self.old.link ≡ Link.Connected }
-        ensures { TakeEnds self.old request.now result self.new }
-    {
-        let Some(first) = self.waiters.front() else {
-            return Ok(None);
-        };
-        let (by, len) = (first.by, first.len);
-        if self.unread.is_empty() {
-            return Ok(None);
-        }
-        match self.unread.take_response(alloc, request) {
-            Ok(response) => {
-                self.waiters.pop_front();
-                self.queued -= len;
-                drop_unasked(
-                    &mut self.link,
-                    &self.waiters,
-                    self.queued,
-                    &mut self.unwritten,
-                    &mut self.unread,
-                );
-                Ok(Some((by, response)))
-            }
-            Err(ReadFault::Short) => Ok(None),
-            Err(ReadFault::Unreadable) => {
-                self.shut(ShutCause::Unreadable);
-                Err(ShutCause::Unreadable)
-            }
-            Err(ReadFault::Memory) => {
-                self.shut(ShutCause::Memory);
-                Err(ShutCause::Memory)
-            }
-        }
+        self.waiters.get(place)
     }
 
     /// When the first response is late, if one is awaited and no byte comes: one time limit after
@@ -244,13 +205,15 @@ impl Pipe {
         requires cause { IsCause self.old cause }
         ensures { IsShut self.old (shutting self.old cause) self.new }
     {
-        self.link = Link::Shut(Fates::of(self.link, cause));
+        let is_gone = is_first_gone(&self.waiters);
+        self.link = Link::Shut(Fates::of(self.link, is_gone, cause));
         self.unwritten.clear();
         self.unread.clear();
+        self.forms.clear();
     }
 
     /// The next of those that waited when the connection was shut, and what became of its request.
-    /// As long as it isn't shut none leaves.
+    /// As long as it isn't shut none leaves. One that gave up is nobody's.
     pub fn leave(&mut self) -> Option<(Asker, Fate)>
         ensures { LeaveEnds self.old result self.new }
     {
@@ -259,59 +222,9 @@ impl Pipe {
         };
         let waiter = self.waiters.pop_front()?;
         self.queued -= waiter.len;
-        self.link = Link::Shut(fates.without_first());
-        Some((waiter.by, fates.fate()))
+        self.link = Link::Shut(fates.after(waiter.by));
+        Some((waiter.by, fates.fate_for(waiter.by)))
     }
-}
-
-/// Whether the text of the first request was written wholly, where the texts of all requests have
-/// the one length and what is not written of them has the other.
-fn is_first_written(waiters: &VecDeque<Waiter>, queued: usize, unwritten: usize) -> bool
-    requires { queued ≡ lengths_of waiters.now.items }
-    ensures { (unsent : List ℕ) → unwritten ≡ length unsent
-        → result ≡ is_first_written waiters.now.items unsent }
-{
-    match waiters.front() {
-        Some(first) => unwritten <= queued - first.len,
-        None => false,
-    }
-}
-
-/// Whether somebody can have asked for the bytes that are unread.
-fn is_asked(
-    unread: &ByteQueue,
-    waiters: &VecDeque<Waiter>,
-    queued: usize,
-    unwritten: &ByteQueue,
-) -> bool
-    requires { queued ≡ lengths_of waiters.now.items }
-    ensures { result ≡ is_asked unread.now waiters.now.items unwritten.now }
-{
-    unread.is_empty() || is_first_written(waiters, queued, unwritten.len())
-}
-
-/// Shuts the connection if bytes are unread that nobody asked for.
-fn drop_unasked(
-    link: &mut Link,
-    waiters: &VecDeque<Waiter>,
-    queued: usize,
-    unwritten: &mut ByteQueue,
-    unread: &mut ByteQueue,
-)
-    requires { queued ≡ lengths_of waiters.now.items }
-    ensures link { link.new ≡ (if is_asked unread.old waiters.now.items unwritten.old
-        then link.old else Link.Shut (fates_of link.old ShutCause.Unasked)) }
-    ensures unwritten { unwritten.new ≡ (if is_asked unread.old waiters.now.items unwritten.old
-        then unwritten.old else []) }
-    ensures unread { unread.new ≡ (if is_asked unread.old waiters.now.items unwritten.old
-        then unread.old else []) }
-{
-    if is_asked(unread, waiters, queued, unwritten) {
-        return;
-    }
-    *link = Link::Shut(Fates::of(*link, ShutCause::Unasked));
-    unwritten.clear();
-    unread.clear();
 }
 
 /// Whether no byte came for the whole time limit, up to this moment.

@@ -4,6 +4,6 @@ use Rattle.tko_pipe.proofs.pipe.Pipe.leave.Goals as goal
 
 pub returns : goal.returns
 returns c =
-    left_first _ c.args.self.now c.in-Shut.fates c.without_first.result c.in_ok-waiter.waiter
-    c.pop_front.new.self.items c.fate.result c.self.view_is (search rules) (search rules)
-    c.fate.ensures c.without_first.ensures
+    left_first _ c.args.self.now c.in-Shut.fates c.after.result c.in_ok-waiter.waiter
+    c.pop_front.new.self.items c.fate_for.result c.self.view_is (search rules) (search rules)
+    c.fate_for.ensures c.after.ensures
