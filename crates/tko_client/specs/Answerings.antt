@@ -1,6 +1,6 @@
 -- What a client's requests are answered by: its session, or the keys of a request that the session
 -- handed over.
-use Rattle.std.specs.Prelude.{◌≡◌, ◌<◌, ◌+◌, ℕ, List, [], Option, Some, None, IsSome, length}
+use Rattle.std.specs.Prelude.{◌≡◌, ◌<◌, ◌+◌, ℕ, Bool, List, [], Option, Some, None, IsSome, length}
 use Rattle.tko_bytes.specs.Numbers.{capped}
 use Rattle.tko_text.specs.declared.request.Request.{Request}
 use Rattle.tko_pools.specs.Configs.{Configuration}
@@ -8,12 +8,12 @@ use Rattle.tko_reply.specs.Replies.{reply_bound}
 use Rattle.tko_mux.specs.Awaits.{awaited_one}
 use Rattle.tko_keys.specs.KeysDriven.{AreUnderWay}
 use Rattle.tko_keys.specs.KeysState.{KeysState, asked_first, asked_last, awaited_servers}
-use Rattle.tko_keys.specs.KeysState.{bytes_held_in, first_send}
+use Rattle.tko_keys.specs.KeysState.{bytes_held_in, first_send, has_next_first}
 use Rattle.tko_session.specs.Awaiting.{awaited_in}
 use Rattle.tko_session.specs.Clients.{ClientPhase, ClientState}
 use Rattle.tko_session.specs.Driven.{IsSessionReady, MayGoOn}
 use Rattle.tko_session.specs.Outgoing.{outgoing}
-use Rattle.tko_session.specs.Working.{Work}
+use Rattle.tko_session.specs.Working.{Work, has_next_in}
 use Rattle.tko_session.specs.Working as work
 use Rattle.tko_client.specs.declared.answering.Answering.{Answering}
 
@@ -53,6 +53,15 @@ waited_with (Some keys) at server = asked_first server keys
 
 abbrev pub waited_by : Answering → ℕ → Option Request
 waited_by it server = waited_with it.keys it.session.work server
+
+-- the first request that is under way to a server may go on: each of its keys has another target,
+-- or without keys, that of the session has, over its targets
+abbrev pub has_next_over : Option KeysState → Work → List ℕ → ℕ → Bool
+has_next_over None at targets server = has_next_in at targets
+has_next_over (Some keys) at targets server = has_next_first server keys
+
+abbrev pub has_next_by : Answering → ℕ → Bool
+has_next_by it server = has_next_over it.keys it.session.work it.session.targets server
 
 -- how many bytes of replies are held, of those that may be written and of the one under way; the
 -- number stays at 2^64 - 1

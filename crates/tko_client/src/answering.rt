@@ -7,7 +7,7 @@ ghost use Rattle.tko_pools.specs.Configs.{Configuration};
 ghost use Rattle.tko_session.specs.Clients.{Open, new_client};
 ghost use Rattle.tko_client.specs.Answerings.{IsAnsweringReady, IsClientIdle, MayCallClient};
 ghost use Rattle.tko_client.specs.Answerings.{asked_by, awaited_by_client, client_at};
-ghost use Rattle.tko_client.specs.Answerings.{held_by_client, waited_by};
+ghost use Rattle.tko_client.specs.Answerings.{has_next_by, held_by_client, waited_by};
 
 use crate::boxed_keys::BoxedKeys;
 use std::alloc::Global;
@@ -83,6 +83,17 @@ impl Answering {
         match &self.keys {
             Some(keys) => keys.get().request_to(server),
             None => self.session.request(),
+        }
+    }
+
+    /// Whether the first request that is under way to this server may go on to another target: each
+    /// of its keys has one. Without keys, whether the send that is out may.
+    pub(crate) fn has_next_to(&self, server: usize) -> bool
+        ensures { result ≡ has_next_by self.now server }
+    {
+        match &self.keys {
+            Some(keys) => keys.get().has_next_to(server),
+            None => self.session.has_next_target(),
         }
     }
 

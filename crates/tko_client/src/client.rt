@@ -73,7 +73,7 @@ impl EventClient {
 }
 
 impl<'r, R: IoRuntime, H: Health, T: Trails, C> Talking<Lent<'r, R, H, T, C>> for EventClient {
-    ghost use Rattle.tko_client.specs.Answerings.{asked_by, waited_by};
+    ghost use Rattle.tko_client.specs.Answerings.{asked_by, has_next_by, waited_by};
     ghost use Rattle.tko_client.specs.Clients.{DoesAs, IsReadyAfter, awaits, client_of, talk_of};
     ghost use Rattle.tko_client.specs.Steps.{HasStayed, client_ghosts};
     ghost use Rattle.tko_client.specs.Staying.{no_change, ready_stays, stayed_on};
@@ -85,6 +85,8 @@ impl<'r, R: IoRuntime, H: Health, T: Trails, C> Talking<Lent<'r, R, H, T, C>> fo
     ghost asks_for = { λ it. asked_by it.answering };
 
     ghost waits_for = { λ it. waited_by it.answering };
+
+    ghost has_next = { λ it server. has_next_by it.answering server };
 
     ghost does = { λ old item new. DoesAs (client_ghosts H.Health T.Trails) item
         (client_of old.0, old.1.parts) (client_of new.0, new.1.parts) };
@@ -185,6 +187,10 @@ impl<'r, R: IoRuntime, H: Health, T: Trails, C> Talking<Lent<'r, R, H, T, C>> fo
 
     fn request_to(&self, server: usize) -> &Request {
         self.answering.request_to(server)
+    }
+
+    fn has_next_target(&self, server: usize) -> bool {
+        self.answering.has_next_to(server)
     }
 }
 

@@ -1,20 +1,36 @@
 -- Who leaves a line, and what becomes of the request.
-use Rattle.std.proofs.Common.{◌≡◌, ℕ, ◌<◌, List, ◌++◌, refl, sym, ap, subst, ◌∙◌, length, Option}
+use Rattle.std.proofs.Common.{◌≡◌, ℕ, ◌<◌, List, [], ◌∷◌, ◌++◌, refl, sym, ap, subst, ◌∙◌, length, Option}
 use Rattle.std.proofs.Common.{Some, None}
 use Rattle.std.specs.Prelude.{slice_get, slice_set, slice_index_or}
 use Rattle.tko_text.specs.declared.request.Request.{Request}
 use Rattle.tko_pipe.specs.declared.waiter.Waiter.{Waiter}
 use Rattle.tko_pipe.specs.declared.fates.Fate.{Fate}
+use Rattle.tko_pipe.specs.declared.link.Link.{Link}
+use Rattle.tko_pipe.specs.declared.link.Link.TheVariants.{Connected, Connecting, Shut}
+use Rattle.tko_pipe.specs.Lives.{leaving_in}
+use Rattle.tko_pipe.specs.Pipes.{PipeState}
 use Rattle.tko_pipe.specs.declared.waiter.Asker.{Asker}
 use Rattle.tko_roster.proofs.SlotLemmas.{at_index, get_set_same}
 use Rattle.tko_mux.specs.declared.asking.Came.TheVariants as came
 use Rattle.tko_mux.specs.declared.mux.delivery.Delivery.{Delivery}
 use Rattle.tko_mux.specs.Asks.{AskingActs}
-use Rattle.tko_mux.specs.Lines.{LineLeaves, LineState, waiters, pipe_waiters}
+use Rattle.tko_mux.specs.Lines.{LineLeaves, LineState, WasShut, waiters, pipe_waiters}
 use Rattle.tko_mux.specs.Linking.{AreLinked, IsFree, awaited_at, waiters_at}
 use Rattle.tko_mux.specs.Muxes.{HasNoneLeaving, IsDelivered, IsTold, MuxState}
 use Rattle.tko_mux.proofs.LineLemmas.{left_leaves}
 use Rattle.tko_mux.proofs.ReadLemmas.{one_free}
+
+nobody_in : (link : Link) (waiters : List Waiter) → WasShut link
+    → leaving_in link waiters ≡ [] → waiters ≡ []
+nobody_in Connecting waiters shut none = absurd shut
+nobody_in Connected waiters shut none = absurd shut
+nobody_in (Shut left) [] shut none = refl
+nobody_in (Shut left) (it ∷ others) shut none = absurd (let f : ⊥ = cc none in f)
+
+-- where nobody leaves a connection that was shut, nobody waits on it
+pub nobody_left : (pipe : PipeState) → WasShut pipe.link → leaving_in pipe.link pipe.waiters ≡ []
+    → pipe.waiters ≡ []
+nobody_left pipe shut none = nobody_in pipe.link pipe.waiters shut none
 
 -- one that left is free to take what became of its request
 pub left_free : {S P : Type 0} (awaited : S → List ℕ) (p old : MuxState S P) (server : ℕ)

@@ -5,13 +5,13 @@ use Rattle.std.proofs.lemmas.Bool.{cases_eq, eq-eqb}
 use Rattle.std.proofs.lemmas.Bool.Decides.{eqb_tells}
 use Rattle.std.proofs.lemmas.List.Sums.{sum_by-append, sum_by-cons}
 use Rattle.tko_pipe.specs.declared.waiter.Asker.{Asker}
-use Rattle.tko_pipe.specs.declared.waiter.Asker.TheVariants.{Client, Probe}
+use Rattle.tko_pipe.specs.declared.waiter.Asker.TheVariants.{Client, GaveUp, Probe}
 use Rattle.tko_pipe.specs.declared.waiter.Waiter.{Waiter}
 use Rattle.tko_mux.specs.declared.asking.Came.{Came}
 use Rattle.tko_mux.specs.Awaits.{IsAsking, IsTaking, one_if, times_due}
 use Rattle.tko_mux.specs.Linking.{IsAsker, IsLoose, Linked, count_if, one_for, times_in}
 
-one_same : (it : ℕ) → one_if (it == it) ≡ 1
+pub one_same : (it : ℕ) → one_if (it == it) ≡ 1
 one_same it = ap one_if (eq-eqb it it refl)
 
 count_none : (test : Bool) → count_if test 0 ≡ 0
@@ -23,7 +23,7 @@ count_one true = refl
 count_one false = refl
 
 -- one more at the front, or at the end
-times_first : (number : ℕ) (it : Waiter) (rest : List Waiter)
+pub times_first : (number : ℕ) (it : Waiter) (rest : List Waiter)
     → times_in number (it ∷ rest) ≡ one_for number it.by + times_in number rest
 times_first number it rest = sum_by-cons (λ (one : Waiter). one_for number one.by) it rest
 
@@ -44,7 +44,7 @@ pub record IsWithout (server : ℕ) (by : Asker) (all less : ℕ → List Waiter
       ≡ times_in other (all at)
 
 -- where one more is in the queue of this server, and the other queues are the same
-without : (all less : ℕ → List Waiter) (server : ℕ) (by : Asker)
+pub without : (all less : ℕ → List Waiter) (server : ℕ) (by : Asker)
     → ((other : ℕ) → times_in other (less server) + one_for other by ≡ times_in other (all server))
     → ((other : ℕ) → other ≢ server → less other ≡ all other) → IsWithout server by all less
 without all less server by mine others = record {
@@ -108,7 +108,14 @@ probe_taken aw old new server linked one = λ at number.
     let due : times_in number (old at) ≡ times_due (aw number) at = linked at number in
     omega (arith, due, one.counts at number, count_none (server == at))
 
--- and where one was added
+-- and so where one that had given up was
+pub gone_taken : (aw : ℕ → List ℕ) (old new : ℕ → List Waiter) (server number : ℕ) → Linked aw old
+    → IsWithout server (GaveUp number) old new → Linked aw new
+gone_taken aw old new server number linked one = λ at other.
+    let due : times_in other (old at) ≡ times_due (aw other) at = linked at other in
+    omega (arith, due, one.counts at other, count_none (server == at))
+
+-- and where a probe was added
 pub probe_linked : (aw : ℕ → List ℕ) (old new : ℕ → List Waiter) (server : ℕ) → Linked aw old
     → IsWithout server Probe new old → Linked aw new
 probe_linked aw old new server linked one = λ at number.

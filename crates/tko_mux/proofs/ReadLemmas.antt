@@ -19,7 +19,7 @@ use Rattle.tko_mux.specs.Lines.{IsLinePushed, LineState, first_on, waiters, pipe
 use Rattle.tko_mux.specs.Linking.{AreLinked, AwaitsBy, AwaitsFirst, IsFree, Linked, awaited_at}
 use Rattle.tko_mux.specs.Linking.{waiters_at, waiters_on}
 use Rattle.tko_mux.specs.Muxes.{GoesToClient, HasNoneLeaving, IsResponseRead, MuxState, ReadsOn, WaitsFor}
-use Rattle.tko_mux.proofs.LinkingLemmas.{IsWithout, first_awaits, first_loose, first_without}
+use Rattle.tko_mux.proofs.LinkingLemmas.{IsWithout, first_awaits, first_loose, first_without, gone_taken}
 use Rattle.tko_mux.proofs.LinkingLemmas.{last_without, probe_linked, probe_taken, same_linked}
 use Rattle.tko_mux.proofs.LineLemmas.{OneLeaves, TakeLeaves, others_wait, pushed_waits}
 use Rattle.tko_mux.proofs.LineLemmas.{read_leaves, set_waits}
@@ -30,6 +30,7 @@ awaits_by : (aw : ℕ → List ℕ) (queue : ℕ → List Waiter) (server : ℕ)
 awaits_by aw queue server (asker.Client number) it rest linked is by =
     first_awaits aw queue server number it rest linked is by
 awaits_by aw queue server asker.Probe it rest linked is by = tt
+awaits_by aw queue server (asker.GaveUp number) it rest linked is by = tt
 
 -- one that left the front of a line is free to take what came
 frees : (aw : ℕ → List ℕ) (old new : ℕ → List Waiter) (server : ℕ) (by : Asker) → Linked aw old
@@ -37,6 +38,8 @@ frees : (aw : ℕ → List ℕ) (old new : ℕ → List Waiter) (server : ℕ) (
 frees aw old new server (asker.Client number) linked one =
     first_loose aw old new server number linked one
 frees aw old new server asker.Probe linked one = probe_taken aw old new server linked one
+frees aw old new server (asker.GaveUp number) linked one =
+    gone_taken aw old new server number linked one
 
 pub one_free : {S P : Type 0} (awaited : S → List ℕ) (p old : MuxState S P) (server : ℕ)
     (by : Asker) (was now : LineState) → p ≡ old → server < length p.lines

@@ -1,12 +1,14 @@
 -- The connections to one server, and who waits on them.
-use Rattle.std.specs.Prelude.{◌≡◌, ℕ, List, [], ◌++◌, Option, Some, None, unwrap_or, slice_get}
+use Rattle.std.specs.Prelude.{◌≡◌, ℕ, Bool, false, List, [], ◌++◌, Option, Some, None, unwrap_or, slice_get}
 use Rattle.std.specs.Option.{option_and_then, option_map}
+use Rattle.tko_text.specs.declared.request.Request.{Request}
 use Rattle.tko_pipe.specs.declared.fates.Fate.{Fate}
 use Rattle.tko_pipe.specs.declared.link.Link.{Link}
 use Rattle.tko_pipe.specs.declared.link.Link.TheVariants.{Connecting, Connected, Shut}
 use Rattle.tko_pipe.specs.declared.waiter.Asker.{Asker}
 use Rattle.tko_pipe.specs.declared.waiter.Waiter.{Waiter}
 use Rattle.tko_pipe.specs.Ends.{IsLeaving}
+use Rattle.tko_pipe.specs.Waiters.{is_first_gone}
 use Rattle.tko_pipe.specs.Pipes.{IsLive, IsPushed, PipeState, Pushing, opened_pipe}
 
 -- the connection that requests go out on, and one that was shut, until all that waited on it have
@@ -55,6 +57,16 @@ link_on pipe = option_map (λ it. it.link) pipe
 abbrev pub unwritten_on : Option PipeState → List ℕ
 unwritten_on None = []
 unwritten_on (Some pipe) = pipe.unwritten
+
+-- whether the one that waits for the next response gave up
+abbrev pub is_gone_on : Option PipeState → Bool
+is_gone_on None = false
+is_gone_on (Some pipe) = is_first_gone pipe.waiters
+
+-- what the responses to those that gave up are read by
+abbrev pub forms_on : Option PipeState → List Request
+forms_on None = []
+forms_on (Some pipe) = pipe.forms
 
 abbrev pub line_by : Link → PipeState → LineState
 line_by Connecting pipe = record { pipe = Some pipe; ended = None }

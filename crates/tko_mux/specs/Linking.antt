@@ -2,16 +2,17 @@
 use Rattle.std.specs.Prelude.{◌≡◌, ◌≢◌, ◌==◌, ◌+◌, ◌<◌, ◌⊎◌, ℕ, Bool, true, false, List, [], Option, Some, None, slice_get, sum_by}
 use Rattle.tko_roster.specs.Rosters.{session_at}
 use Rattle.tko_pipe.specs.declared.waiter.Asker.{Asker}
-use Rattle.tko_pipe.specs.declared.waiter.Asker.TheVariants.{Client, Probe}
+use Rattle.tko_pipe.specs.declared.waiter.Asker.TheVariants.{Client, GaveUp, Probe}
 use Rattle.tko_pipe.specs.declared.waiter.Waiter.{Waiter}
 use Rattle.tko_mux.specs.declared.client.Client.{Client as ClientOf}
 use Rattle.tko_mux.specs.Awaits.{one_if, times_due}
 use Rattle.tko_mux.specs.Lines.{LineState, waiters}
 
--- 1 if this is the client of that number; a probe is no client's
+-- 1 if this is the client of that number and waits; a probe is no client's
 abbrev pub one_for : ℕ → Asker → ℕ
 one_for number (Client it) = one_if (it == number)
 one_for number Probe = 0
+one_for number (GaveUp it) = 0
 
 -- how often the client of a number is among those that wait
 abbrev pub times_in : ℕ → List Waiter → ℕ
@@ -68,14 +69,16 @@ IsNotForgotten awaited slots number =
     (session_at slots number ≡ None) ⊎ (awaited_at awaited slots number ≢ [])
 
 -- one to whom something came from this server: a client, whose request is in no queue now; if it
--- came for a probe, all wait as they should
+-- came for a probe, or for a client that had given up, all wait as they should
 abbrev pub IsFree : (ℕ → List ℕ) → (ℕ → List Waiter) → ℕ → Asker → Type 0
 IsFree aw queue server (Client number) = IsLoose aw queue number server
 IsFree aw queue server Probe = Linked aw queue
+IsFree aw queue server (GaveUp number) = Linked aw queue
 
 abbrev pub AwaitsBy : (ℕ → List ℕ) → ℕ → Asker → Type 0
 AwaitsBy aw server (Client number) = 0 < times_due (aw number) server
 AwaitsBy aw server Probe = Unit {0}
+AwaitsBy aw server (GaveUp number) = Unit {0}
 
 -- the first that waits for this server, if it is a client, awaits it
 abbrev pub AwaitsFirst : (ℕ → List ℕ) → ℕ → Option Waiter → Type 0

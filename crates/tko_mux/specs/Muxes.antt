@@ -17,10 +17,10 @@ use Rattle.tko_mux.specs.declared.asking.Given.{Given}
 use Rattle.tko_mux.specs.declared.asking.Given.TheVariants.{Outcome}
 use Rattle.tko_mux.specs.declared.client.Client.{Client}
 use Rattle.tko_mux.specs.declared.mux.delivery.Delivery.{Delivery}
-use Rattle.tko_mux.specs.declared.mux.delivery.Delivery.TheVariants.{Probed, Reached}
+use Rattle.tko_mux.specs.declared.mux.delivery.Delivery.TheVariants.{Dropped, Probed, Reached}
 use Rattle.tko_mux.specs.declared.mux.delivery.Done.{Done}
 use Rattle.tko_mux.specs.Asks.{AskingActs, IsCall}
-use Rattle.tko_mux.specs.Lines.{IsLinePushed, IsOnPipe, LineLeaves, LineState, first_on, idle_line}
+use Rattle.tko_mux.specs.Lines.{IsLinePushed, IsOnPipe, LineLeaves, LineState, first_on, forms_on, idle_line}
 use Rattle.tko_mux.specs.Linking.{AreLinked}
 
 -- the time limit of each connection, the sessions by number, and for each server its line
@@ -123,7 +123,7 @@ pub record IsMade {S P I O : Type 0} (acts : AskingActs S P I O) (awaited : S �
       done.stopped new
 
 -- what came from this server for this one reaches it: a client's session takes it; what came for a
--- probe is returned
+-- probe is returned; and what came for a client that had given up is dropped
 abbrev pub IsDelivered : {S P I O : Type 0} → AskingActs S P I O → (S → List ℕ)
     → (S → Option Request) → MuxState S P → ℕ → Asker → Came → ℕ → Delivery O → MuxState S P
     → Type 0
@@ -132,6 +132,8 @@ IsDelivered acts awaited asks_for old server by what due (Reached number done) n
     × IsMade acts awaited asks_for old number (Outcome server what) due done new
 IsDelivered acts awaited asks_for old server by what due (Probed it) new =
     (by ≡ asker.Probe) × (it ≡ what) × (new ≡ old)
+IsDelivered acts awaited asks_for old server by what due (Dropped number) new =
+    (by ≡ asker.GaveUp number) × (new ≡ old)
 
 -- nobody has a number, and there is no connection to any of so many servers
 abbrev pub begun_mux : {S P : Type 0} → ℕ → P → ℕ → MuxState S P
@@ -149,21 +151,22 @@ line_at mux server = slice_get mux.lines server
 abbrev pub WaitsFor : Type 0 → Type 0
 WaitsFor S = S → ℕ → Option Request
 
--- the request that is lent to read the response to it: the first of the client's session that is
--- under way to this server, or the one that a probe sends
-abbrev pub IsLent : {S P : Type 0} → WaitsFor S → RosterState (Client S) P → ℕ → Asker → Request
-    → Type 0
-IsLent {S} waits_for roster server (asker.Client number) it =
+-- the request that a response is read by: the first of the client's session that is under way to
+-- this server; the one that a probe sends; or, where the client gave up, the first of these forms
+abbrev pub IsLent : {S P : Type 0} → WaitsFor S → RosterState (Client S) P → ℕ → List Request
+    → Asker → Request → Type 0
+IsLent {S} waits_for roster server forms (asker.Client number) it =
     (client : Client S) × (session_at roster.slots number ≡ Some client)
     × (waits_for client.session server ≡ Some it)
-IsLent waits_for roster server asker.Probe it = it ≡ request.Version
+IsLent waits_for roster server forms asker.Probe it = it ≡ request.Version
+IsLent waits_for roster server forms (asker.GaveUp number) it = slice_get forms 0 ≡ Some it
 
 -- a response of this server was looked for on its line, to the request of the one that waits for it
 pub record IsReadFor {S P : Type 0} (waits_for : WaitsFor S) (roster : RosterState (Client S) P)
     (server : ℕ) (by : Asker) (old : LineState)
     (taken : Result (Option (Asker × Response)) ShutCause) (new : LineState) : Type 0 where
   pub lent : Request
-  pub is_lent : IsLent waits_for roster server by lent
+  pub is_lent : IsLent waits_for roster server (forms_on old.pipe) by lent
   pub on : IsOnPipe (λ was now. TakeEnds was lent taken now) old new
 
 -- the same of the first that waits on this line, if somebody does

@@ -30,7 +30,7 @@ pub enum Given<I> {
 /// of its requests may be under way, also to one server: what comes from a server is of the first
 /// of those that are under way to it, in the order in which they were asked for.
 pub trait Asking<P> {
-    ghost use Rattle.std.specs.Prelude.{◌≡◌, ◌≢◌, ◌<◌, ℕ, List, [], Option, IsSome, Some};
+    ghost use Rattle.std.specs.Prelude.{◌≡◌, ◌≢◌, ◌<◌, ℕ, Bool, List, [], Option, IsSome, Some};
     ghost use Rattle.std.specs.Bool.{OnFalse, OnTrue};
     ghost use Rattle.tko_text.specs.declared.request.Request.{Request};
     ghost use Rattle.tko_mux.specs.declared.asking.Given.{Given};
@@ -60,6 +60,10 @@ pub trait Asking<P> {
 
     /// The first of its requests that are under way to a server, whose response comes next.
     ghost waits_for: { Self → ℕ → Option Request };
+
+    /// Whether the first of its requests that are under way to a server may go on to another
+    /// target of its route.
+    ghost has_next: { Self → ℕ → Bool };
 
     /// Makes one call. Where it asks a server, one request more is under way.
     fn act(&mut self, parts: &mut P, input: Self::Input) -> (Option<Clear>, Self::Output)
@@ -97,6 +101,11 @@ pub trait Asking<P> {
     fn request_to(&self, server: usize) -> &Request
         requires { 0 < times_due (awaited self.now) server }
         ensures { waits_for self.now server ≡ Some result.now };
+
+    /// Whether the first of its requests that are under way to this server may go on to another
+    /// target of its route, so that it need not wait for this one.
+    fn has_next_target(&self, server: usize) -> bool
+        ensures { result ≡ has_next self.now server };
 
     ghost stay_ready: { (session : Self) (old new : P) → stays old new → ready old session
         → ready new session };

@@ -1,9 +1,11 @@
 //! The connections to one server.
-ghost use Rattle.std.specs.Prelude.{◌≡◌, ◌<◌, ◌≤◌, [], Some, None, IsSome, Ok, OnErr, OnOk, length, option_copied, option_map, take};
+ghost use Rattle.std.specs.Prelude.{◌≡◌, ◌<◌, ◌≤◌, [], true, false, Some, None, IsSome, Ok, OnErr, OnOk, length, option_copied, option_map, take};
 ghost use Rattle.std.specs.Bool.{OnFalse, OnTrue};
-ghost use Rattle.tko_pipe.specs.Ends.{ExpireEnds, GotEnds, TakeEnds};
+ghost use Rattle.tko_pipe.specs.Ends.{ExpireEnds, GotEnds, IsTakenByForm, TakeEnds};
+ghost use Rattle.tko_pipe.specs.Giving.{HasGivenUp, MayGiveUp};
 ghost use Rattle.tko_pipe.specs.Pipes.{IsCause, IsConnected, IsShut, IsWritten, PipeState, pushing, shutting};
-ghost use Rattle.tko_mux.specs.Lines.{IsLinePushed, IsOnLive, IsOnPipe, LineLeaves, first_on, idle_line, line_of, link_on, unwritten_on};
+ghost use Rattle.tko_pipe.specs.Waiters.{has_gone};
+ghost use Rattle.tko_mux.specs.Lines.{IsLinePushed, IsOnLive, IsOnPipe, LineLeaves, first_on, idle_line, is_gone_on, line_of, link_on, unwritten_on};
 
 use std::alloc::Global;
 use std::marker::Model;
@@ -20,6 +22,7 @@ pub struct Line {
 }
 
 impl Model for Line {
+    ghost use Rattle.tko_pipe.specs.Waiters.{has_gone};
     ghost use Rattle.tko_mux.specs.Lines.{AreApart, LineState};
 
     ghost Value = { LineState };
@@ -71,6 +74,7 @@ impl Line {
         due: u64,
         request: &Request,
     ) -> Result<(), NoMemory>
+        requires here { has_gone by ≡ false }
         ensures ok { OnOk result
             (IsLinePushed limit self.old (pushing by due request.now) self.new) }
         ensures err { OnErr result (self.new ≡ self.old) }
@@ -91,6 +95,7 @@ impl Line {
         request: &Request,
     ) -> Result<Option<(Asker, Response)>, ShutCause>
         requires pipe { IsSome self.old.pipe }
+        requires here { is_gone_on self.old.pipe ≡ false }
         requires left { self.old.ended ≡ None }
         ensures { IsOnPipe (λ was now. TakeEnds was request.now result now) self.old self.new }
     {
@@ -100,6 +105,42 @@ impl Line {
         let taken = pipe.take(alloc, request);
         *self = line_of(pipe);
         taken
+    }
+
+    /// The response to the first request, whose client gave up, as soon as all of it was read. It
+    /// is to be dropped.
+    pub fn take_dropped(&mut self, alloc: Global) -> Result<Option<(Asker, Response)>, ShutCause>
+        requires pipe { IsSome self.old.pipe }
+        requires gone { is_gone_on self.old.pipe ≡ true }
+        requires left { self.old.ended ≡ None }
+        ensures { IsOnPipe (λ was now. IsTakenByForm was result now) self.old self.new }
+    {
+        let Some(mut pipe) = self.pipe.take() else {
+            unreachable!();
+        };
+        let taken = pipe.take_dropped(alloc);
+        *self = line_of(pipe);
+        taken
+    }
+
+    /// The one at this place gives up, whose request is lent. The response to it will be dropped.
+    pub fn give_up(
+        &mut self,
+        alloc: Global,
+        now: u64,
+        place: usize,
+        request: &Request,
+    ) -> Result<(), NoMemory>
+        requires may { (pipe : PipeState) → self.old.pipe ≡ Some pipe → MayGiveUp pipe now place }
+        requires pipe { IsSome self.old.pipe }
+        ensures ok { OnOk result
+            (IsOnLive (λ was it. HasGivenUp was now place request.now it) self.old self.new) }
+        ensures err { OnErr result (self.new ≡ self.old) }
+    {
+        match &mut self.pipe {
+            Some(pipe) => pipe.give_up(alloc, now, place, request),
+            None => unreachable!(),
+        }
     }
 
     /// The connection was made.

@@ -8,6 +8,7 @@ ghost use Rattle.tko_mux.specs.Linking.{AreLinked, IsAsker, IsLoose, IsNotForgot
 ghost use Rattle.tko_mux.specs.Muxes.{HasRequest, IsMade, IsMuxInOrder, IsPushedFor, IsRequestSent, IsSendStopped, LinesStay, MayJoin, OneLineChanges, SendEnds, begun_mux};
 
 mod delivery;
+mod giving_up;
 mod wire;
 
 use crate::{Asking, Came, Client, Given, Line};

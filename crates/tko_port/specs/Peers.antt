@@ -2,7 +2,7 @@
 use Rattle.std.specs.Prelude.{Option, Some, None, Result, Ok, Err}
 use Rattle.tko_mux.specs.declared.asking.Came.{Came}
 use Rattle.tko_mux.specs.declared.mux.delivery.Delivery.{Delivery}
-use Rattle.tko_mux.specs.declared.mux.delivery.Delivery.TheVariants.{Probed, Reached}
+use Rattle.tko_mux.specs.declared.mux.delivery.Delivery.TheVariants.{Dropped, Probed, Reached}
 use Rattle.tko_pipe.specs.declared.fates.ShutCause.{ShutCause}
 use Rattle.tko_port.specs.declared.guest.Turned.{Turned}
 
@@ -15,6 +15,7 @@ delivery_in (Err why) = None
 abbrev pub probed_after : Delivery Turned → Option Came → Option Came
 probed_after (Reached number done) probed = probed
 probed_after (Probed it) probed = Some it
+probed_after (Dropped number) probed = probed
 
 abbrev pub probed_after_delivery : Option (Delivery Turned) → Option Came → Option Came
 probed_after_delivery None probed = probed

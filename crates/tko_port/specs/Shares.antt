@@ -1,4 +1,4 @@
--- How much is done for one client in a turn, before the others have theirs.
+-- How much is done for one client each time that it is served.
 use Rattle.std.specs.Prelude.{◌≤◌, ◌+◌, ◌*◌, ℕ, List, length, sum_by}
 use Rattle.tko_model.specs.Records.{Gains}
 use Rattle.tko_port.specs.Ports.{PortState}
@@ -27,7 +27,7 @@ pub record IsServedWithin {S : Type 0} (does : S → TalkItem → S → Type 0) 
   pub gone : sum_by times_gone items ≤ times
   pub read : length port.read ≤ length was.read + bytes
 
--- a client had its turn: its session went on so often at most, and the buffer, which has this
+-- a client was served once: its session went on so often at most, and the buffer, which has this
 -- length, was filled as often at most
 abbrev pub IsOneTurn : {S : Type 0} → (S → TalkItem → S → Type 0) → ℕ → S → PortState → S
     → PortState → Type 0

@@ -92,6 +92,8 @@ impl<P, L: Port, T: Talking<P>> Asking<SharedParts<P>> for Guest<L, T> {
 
     ghost waits_for = { λ guest. T.waits_for guest.talk };
 
+    ghost has_next = { λ guest. T.has_next guest.talk };
+
     ghost stay_ready = { λ guest old new stays. guest_stays T.ready guest.presence
         (L.port guest.port) guest.talk old.parts new.parts
         (λ came went. T.stay_ready guest.talk came went old.parts new.parts stays) };
@@ -147,6 +149,10 @@ impl<P, L: Port, T: Talking<P>> Asking<SharedParts<P>> for Guest<L, T> {
 
     fn request_to(&self, server: usize) -> &Request {
         self.talk.request_to(server)
+    }
+
+    fn has_next_target(&self, server: usize) -> bool {
+        self.talk.has_next_target(server)
     }
 }
 

@@ -33,7 +33,7 @@ impl<L: Drop> Peer<L> {
         ensures socket { self.new.socket ≡ self.old.socket }
     {
         match delivery {
-            Delivery::Reached(_, _) => {}
+            Delivery::Reached(_, _) | Delivery::Dropped(_) => {}
             Delivery::Probed(came) => self.probed = Some(came),
         }
     }

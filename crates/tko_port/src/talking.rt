@@ -39,7 +39,7 @@ pub struct Tally {
 /// requests may be under way, also to one server: what comes from a server is of the first of those
 /// that are under way to it, in the order in which they were asked for.
 pub trait Talking<P> {
-    ghost use Rattle.std.specs.Prelude.{◌≡◌, ◌≢◌, ◌<◌, ◌≤◌, ◌++◌, ℕ, List, [], Option, Some};
+    ghost use Rattle.std.specs.Prelude.{◌≡◌, ◌≢◌, ◌<◌, ◌≤◌, ◌++◌, ℕ, Bool, List, [], Option, Some};
     ghost use Rattle.std.specs.Prelude.{IsSome, length, take};
     ghost use Rattle.std.specs.Bool.{OnFalse, OnTrue};
     ghost use Rattle.tko_port.specs.declared.talking.SessionStage.TheVariants.{NeedsInput};
@@ -60,6 +60,10 @@ pub trait Talking<P> {
 
     /// The first of its requests that are under way to a server, whose response comes next.
     ghost waits_for: { Self → ℕ → Option Request };
+
+    /// Whether the first of its requests that are under way to a server may go on to another
+    /// target of its route.
+    ghost has_next: { Self → ℕ → Bool };
 
     /// What a call does to the session and to the parts.
     ghost does: { Self × P → TalkItem → Self × P → Type 0 };
@@ -150,6 +154,11 @@ pub trait Talking<P> {
     fn request_to(&self, server: usize) -> &Request
         requires { 0 < times_due (awaited self.now) server }
         ensures { waits_for self.now server ≡ Some result.now };
+
+    /// Whether the first of its requests that are under way to this server may go on to another
+    /// target of its route, so that it need not wait for this one.
+    fn has_next_target(&self, server: usize) -> bool
+        ensures { result ≡ has_next self.now server };
 
     ghost stay_ready: { (talking : Self) (came went : List ℕ) (old new : P) → stays old new
         → ready old came went talking → ready new came went talking };

@@ -1,8 +1,8 @@
 //! Who gets what a server answered, or what became of a request without an answer.
-ghost use Rattle.std.specs.Prelude.{◌≡◌, ◌<◌, None, Some, IfNone, IsSome, length};
+ghost use Rattle.std.specs.Prelude.{◌≡◌, ◌<◌, false, None, Some, IfNone, IsSome, length};
 ghost use Rattle.tko_roster.specs.Rosters.{AreReady};
 ghost use Rattle.tko_mux.specs.Awaits.{times_due};
-ghost use Rattle.tko_mux.specs.Lines.{first_on};
+ghost use Rattle.tko_mux.specs.Lines.{first_on, is_gone_on};
 ghost use Rattle.tko_mux.specs.Linking.{AreLinked, AwaitsFirst, IsFree, IsLoose, awaited_at, waiters_at};
 ghost use Rattle.tko_mux.specs.Muxes.{HasNoneLeaving, IsDelivered, IsMade, IsMuxInOrder, IsReadFor, IsResponseRead, MayShut, ReadsOn, TellEnds, line_at};
 
@@ -27,6 +27,8 @@ pub enum Delivery<O> {
     Reached(usize, Done<O>),
     /// This came for a probe.
     Probed(Came),
+    /// What came was for the client of this number, which had given up, and was dropped.
+    Dropped(usize),
 }
 
 impl<P, S: Asking<P> + Drop> Mux<S, P> {
@@ -92,12 +94,13 @@ impl<P, S: Asking<P> + Drop> Mux<S, P> {
                 Delivery::Reached(number, self.give(alloc, number, server, came, due))
             }
             Asker::Probe => Delivery::Probed(came),
+            Asker::GaveUp(number) => Delivery::Dropped(number),
         }
     }
 
     /// The session of a client takes what came of its request to this server, which is in no queue
     /// now.
-    fn give(
+    pub(super) fn give(
         &mut self,
         alloc: Global,
         number: usize,
@@ -139,6 +142,7 @@ fn read_first<P, S: Asking<P> + Drop>(
     match waiter.by {
         Asker::Client(number) => read_for(roster, line, alloc, number, server),
         Asker::Probe => line.take(alloc, &Request::Version),
+        Asker::GaveUp(_) => line.take_dropped(alloc),
     }
 }
 
@@ -152,6 +156,7 @@ fn read_for<P, S: Asking<P> + Drop>(
 ) -> Result<Option<(Asker, Response)>, ShutCause>
     requires awaits { 0 < times_due (awaited_at S.awaited roster.now.slots number) server }
     requires pipe { IsSome line.old.pipe }
+    requires here { is_gone_on line.old.pipe ≡ false }
     requires left { line.old.ended ≡ None }
     ensures { IsReadFor S.waits_for roster.now server (Asker.Client number) line.old result
         line.new }
