@@ -213,7 +213,6 @@ impl<P, T: Talking<P> + Drop, K: Drop> EventLoop<T, P, K> {
         ensures turns { self.new.turns ≡ self.old.turns }
         ensures order { IsInOrder (T.awaited, T.talk, held_port) T.ready self.new.worker.clients }
     {
-        self.worker.begin_turn();
         let count = note_all(
             rt,
             &mut self.worker,

@@ -13,7 +13,7 @@ use Rattle.tko_mux.specs.declared.asking.Given.{Given}
 use Rattle.tko_mux.specs.declared.asking.Given.TheVariants.{Input, Outcome}
 use Rattle.tko_mux.specs.declared.client.Client.{Client}
 use Rattle.tko_mux.specs.declared.mux.delivery.Delivery.{Delivery}
-use Rattle.tko_mux.specs.declared.mux.delivery.Delivery.TheVariants.{Probed, Reached}
+use Rattle.tko_mux.specs.declared.mux.delivery.Delivery.TheVariants.{Dropped, Probed, Reached}
 use Rattle.tko_mux.specs.declared.mux.delivery.Done.{Done}
 use Rattle.tko_mux.specs.declared.asking.Came.TheVariants.{Unsent}
 use Rattle.tko_mux.specs.Muxes.{GoesToClient, IsDelivered, IsMade, MuxState, SendEnds, TellEnds, WaitsFor}
@@ -143,25 +143,31 @@ dropped_acted sight why old new number (worker.left has counts) = record {
 
 -- a client was noted
 pub listed_acted : {L T P : Type 0} (sight : Sight L T) (old new : MuxAndEnds L T P) (number : ℕ)
-    (numbers now : List ℕ) → ListEnds sight old number numbers new now
+    (off numbers now : List ℕ) → ListEnds sight old number off numbers new now
     → HaveActed sight (old.0.roster, old.1) (new.0.roster, new.1)
-listed_acted {L} {T} {P} sight old new number numbers now (worker.listed is same) =
+listed_acted {L} {T} {P} sight old new number off numbers now (worker.listed is same) =
     subst (λ (m : MuxAndEnds L T P). HaveActed sight (old.0.roster, old.1) (m.0.roster, m.1))
     (sym same) (acted_none sight (old.0.roster, old.1))
-listed_acted sight old new number numbers now (worker.lost is drops) =
+listed_acted {L} {T} {P} sight old new number off numbers now (worker.waits is kept same) =
+    subst (λ (m : MuxAndEnds L T P). HaveActed sight (old.0.roster, old.1) (m.0.roster, m.1))
+    (sym same) (acted_none sight (old.0.roster, old.1))
+listed_acted sight old new number off numbers now (worker.lost is drops) =
     dropped_acted sight _ old new number drops
 
 -- the same of the client that something reached
-reached_acted : {L T P : Type 0} (sight : Sight L T) (old new : MuxAndEnds L T P)
-    (delivery : Option (Delivery Turned)) (numbers now : List ℕ)
-    → ListsReached sight old delivery numbers new now
+pub reached_acted : {L T P : Type 0} (sight : Sight L T) (old new : MuxAndEnds L T P)
+    (delivery : Option (Delivery Turned)) (off numbers now : List ℕ)
+    → ListsReached sight old delivery off numbers new now
     → HaveActed sight (old.0.roster, old.1) (new.0.roster, new.1)
-reached_acted {L} {T} {P} sight old new None numbers now is =
+reached_acted {L} {T} {P} sight old new None off numbers now is =
     subst (λ (m : MuxAndEnds L T P). HaveActed sight (old.0.roster, old.1) (m.0.roster, m.1))
     (sym is.0) (acted_none sight (old.0.roster, old.1))
-reached_acted sight old new (Some (Reached number done)) numbers now is =
-    listed_acted sight old new number numbers now is
-reached_acted {L} {T} {P} sight old new (Some (Probed it)) numbers now is =
+reached_acted sight old new (Some (Reached number done)) off numbers now is =
+    listed_acted sight old new number off numbers now is
+reached_acted {L} {T} {P} sight old new (Some (Probed it)) off numbers now is =
+    subst (λ (m : MuxAndEnds L T P). HaveActed sight (old.0.roster, old.1) (m.0.roster, m.1))
+    (sym is.0) (acted_none sight (old.0.roster, old.1))
+reached_acted {L} {T} {P} sight old new (Some (Dropped number)) off numbers now is =
     subst (λ (m : MuxAndEnds L T P). HaveActed sight (old.0.roster, old.1) (m.0.roster, m.1))
     (sym is.0) (acted_none sight (old.0.roster, old.1))
 
@@ -176,6 +182,9 @@ delivered_acted sight asks_for old new ends server by what due (Reached number d
 delivered_acted {L} {T} {P} sight asks_for old new ends server by what due (Probed it) is =
     acted_same sight (old.roster, ends) (new.roster, ends)
     (ap (λ (m : MuxState (Guest L T) (SharedParts P)). m.roster) is.2) refl
+delivered_acted {L} {T} {P} sight asks_for old new ends server by what due (Dropped number) is =
+    acted_same sight (old.roster, ends) (new.roster, ends)
+    (ap (λ (m : MuxState (Guest L T) (SharedParts P)). m.roster) is.1) refl
 
 reads_acted : {L T P : Type 0} (sight : Sight L T) (asks_for : Guest L T → Option Request)
     (mid new : MuxState (Guest L T) (SharedParts P)) (ends : EndCounts) (server due : ℕ)
@@ -204,7 +213,7 @@ taken_acted sight asks_for waits_for old new server due result taken =
     (new.mux.roster, new.ends)
     (reads_acted sight asks_for (record old.mux { lines = read.lines }) taken.mid old.ends server
     due read.taken result read.reaches)
-    (reached_acted sight (taken.mid, old.ends) (new.mux, new.ends) _ old.touched new.touched
+    (reached_acted sight (taken.mid, old.ends) (new.mux, new.ends) _ old.spent old.touched new.touched
     taken.listed)
 
 leaves_acted : {L T P : Type 0} (sight : Sight L T) (asks_for : Guest L T → Option Request)
@@ -226,8 +235,8 @@ pub left_acted : {L T P : Type 0} (sight : Sight L T) (asks_for : Guest L T → 
 left_acted sight asks_for old new server due result left =
     acted_on sight (old.mux.roster, old.ends) (left.mid.roster, old.ends) (new.mux.roster, new.ends)
     (leaves_acted sight asks_for old.mux left.mid old.ends server due result left.left)
-    (reached_acted sight (left.mid, old.ends) (new.mux, new.ends) result old.touched new.touched
-    left.listed)
+    (reached_acted sight (left.mid, old.ends) (new.mux, new.ends) result old.spent old.touched
+    new.touched left.listed)
 
 -- a client came
 pub opened_acted : {L T P : Type 0} (sight : Sight L T) (old new : WorkerState L T P) (port : L)
@@ -238,5 +247,5 @@ opened_acted sight old new port talk number is =
       acts = tagged number (Admitted _) ∷ [];
       gains = gains_one (is.admitted, refl);
     })
-    (listed_acted sight (is.mid, old.ends) (new.mux, new.ends) number old.touched new.touched
-    is.listed)
+    (listed_acted sight (is.mid, old.ends) (new.mux, new.ends) number old.spent old.touched
+    new.touched is.listed)

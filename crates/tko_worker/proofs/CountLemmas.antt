@@ -166,8 +166,9 @@ module _ {L T P : Type 0} (sight : Sight L T) (asks_for : Guest L T → Option R
 
   -- a client that was served was to be served again
   pub served_listed : (numbers listed : List ℕ) → WasServed sight asks_for old number due mid
-      → ListEnds sight (mid, ends) number numbers (new, now) listed
+      → ListEnds sight (mid, ends) number [] numbers (new, now) listed
       → ServeCounts sight asks_for (old, ends) number due (new, now)
+  served_listed numbers listed was (worker.waits is kept same) = absurd is
   served_listed numbers listed was (worker.listed is same) =
       serving.stayed
       (ap (λ (p : MuxAndEnds L T P). is_some (session_at p.0.roster.slots number)) same

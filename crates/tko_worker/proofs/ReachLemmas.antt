@@ -9,13 +9,14 @@ use Rattle.tko_mux.specs.declared.client.Client.{Client}
 use Rattle.tko_pipe.specs.declared.waiter.Asker.{Asker}
 use Rattle.tko_mux.specs.declared.asking.Came.{Came}
 use Rattle.tko_mux.specs.declared.mux.delivery.Delivery.{Delivery}
-use Rattle.tko_mux.specs.declared.mux.delivery.Delivery.TheVariants.{Probed, Reached}
+use Rattle.tko_mux.specs.declared.mux.delivery.Delivery.TheVariants.{Dropped, Probed, Reached}
 use Rattle.tko_mux.specs.Muxes.{GoesToClient, IsDelivered, IsResponseRead, MuxState, TellEnds, WaitsFor}
 use Rattle.tko_port.specs.declared.guest.Guest.{Guest}
 use Rattle.tko_port.specs.declared.guest.SharedParts.{SharedParts}
 use Rattle.tko_port.specs.declared.guest.Turned.{Turned}
 use Rattle.tko_port.specs.Guests.{IsGuestCall}
-use Rattle.tko_worker.specs.Workers.{IsIn, IsListedFor, NobodyForgotten, OthersStayFor, RestAt}
+use Rattle.tko_worker.specs.Numbers.{IsIn}
+use Rattle.tko_worker.specs.Workers.{IsListedFor, NobodyForgotten, OthersStayFor, RestAt}
 use Rattle.tko_worker.specs.Workers.{Rests, Sight}
 use Rattle.tko_worker.proofs.RestLemmas.{made_others}
 use Rattle.tko_worker.proofs.ListedLemmas.{one_listed}
@@ -32,6 +33,8 @@ delivered_others sight asks_for old new server by what due (Reached number done)
     number due _ done is.1
 delivered_others {L} {T} {P} sight asks_for old new server by what due (Probed it) is =
     λ other. ap (λ (m : MuxState (Guest L T) (SharedParts P)). session_at m.roster.slots other) is.2
+delivered_others {L} {T} {P} sight asks_for old new server by what due (Dropped number) is =
+    λ other. ap (λ (m : MuxState (Guest L T) (SharedParts P)). session_at m.roster.slots other) is.1
 
 same_rest : {L T : Type 0} (sight : Sight L T) (old new : List (Option (Client (Guest L T))))
     (number : ℕ) (B : Type 0) → session_at new number ≡ session_at old number
@@ -44,12 +47,18 @@ pub one_reached : {L T : Type 0} (sight : Sight L T)
     (old mid new : List (Option (Client (Guest L T)))) (delivery : Delivery Turned)
     (touched now_touched spent : List ℕ) → NobodyForgotten sight old touched spent
     → OthersStayFor delivery old mid → OthersStayFor delivery mid new
-    → IsListedFor sight new delivery touched now_touched
+    → IsListedFor sight new delivery spent touched now_touched
     → NobodyForgotten sight new now_touched spent
 one_reached sight old mid new (Reached number done) touched now_touched spent nobody first second
     listed =
     one_listed sight old mid new number touched now_touched spent nobody first second listed
 one_reached sight old mid new (Probed it) touched now_touched spent nobody first second same =
+    λ number.
+    subst (λ (t : List ℕ). RestAt sight new number ⊎ (IsIn number t ⊎ IsIn number spent))
+    (sym same)
+    (same_rest sight old new number (IsIn number touched ⊎ IsIn number spent)
+    (second number ∙ first number) (nobody number))
+one_reached sight old mid new (Dropped it) touched now_touched spent nobody first second same =
     λ number.
     subst (λ (t : List ℕ). RestAt sight new number ⊎ (IsIn number t ⊎ IsIn number spent))
     (sym same)

@@ -1,5 +1,5 @@
 -- Who rests once a client was served.
-use Rattle.std.proofs.Common.{◌≡◌, ◌≢◌, ◌⊎◌, ℕ, List, sym, ap, subst, ◌∙◌, inl, inr, Option}
+use Rattle.std.proofs.Common.{[], ◌≡◌, ◌≢◌, ◌⊎◌, ℕ, List, sym, ap, subst, ◌∙◌, inl, inr, Option}
 use Rattle.std.proofs.Common.{Some, None}
 use Rattle.std.specs.Prelude.{IfNone, IfSome}
 use Rattle.tko_text.specs.declared.request.Request.{Request}
@@ -88,9 +88,12 @@ served_rests {L} {T} {P} sight asks_for old new number due done made sent rests 
 pub served_after : {L T P : Type 0} (sight : Sight L T) (asks_for : Guest L T → Option Request)
     (old mid new : MuxState (Guest L T) (SharedParts P)) (number due : ℕ) (spent now_spent : List ℕ)
     → WasServed sight asks_for old number due mid
-    → IsNotedToServe sight new.roster.slots number spent now_spent
+    → IsNotedToServe sight new.roster.slots number [] spent now_spent
     → IsNumberServed sight asks_for old number due new spent now_spent
-served_after sight asks_for old mid new number due spent now_spent was (inl rests) = inl rests
+served_after sight asks_for old mid new number due spent now_spent was (inl (inl rests, same)) =
+    inl (rests, same)
+served_after sight asks_for old mid new number due spent now_spent was (inl (inr is, same)) =
+    absurd is
 served_after sight asks_for old mid new number due spent now_spent was (inr is) =
     inr ((mid, was), is)
 

@@ -14,8 +14,8 @@ use Rattle.tko_roster.specs.Rosters.{RosterState}
 use Rattle.tko_mux.specs.declared.client.Client.{Client}
 use Rattle.tko_mux.specs.declared.mux.delivery.Delivery.{Delivery}
 use Rattle.tko_mux.specs.Asks.{AskingActs}
-use Rattle.tko_mux.specs.Lines.{LineState, first_on, line_by}
-use Rattle.tko_mux.specs.Muxes.{GoesToClient, IsOnLine, IsResponseRead, MuxState, ReadsFirst, ReadsOn, TellEnds, WaitsFor, line_at}
+use Rattle.tko_mux.specs.Lines.{forms_on, LineState, first_on, line_by}
+use Rattle.tko_mux.specs.Muxes.{GoesToClient, IsLent, IsOnLine, IsResponseRead, MuxState, ReadsFirst, ReadsOn, TellEnds, WaitsFor, line_at}
 use Rattle.tko_port.specs.Peers.{delivery_in}
 use Rattle.tko_port.specs.declared.peer.Peer.{Peer}
 use Rattle.tko_port.specs.Ports.{PortState}
@@ -26,7 +26,9 @@ use Rattle.tko_port.specs.declared.guest.Turned.{Turned}
 use Rattle.tko_port.specs.Guests.{IsGuestCall}
 use Rattle.tko_worker.specs.Servers.{AwaitsMore, HasLeftNext, HasNoResponse, HasResponseTaken, IsDrained, IsNothingRead, IsServerDone, ListsReached, pipe_at}
 use Rattle.tko_worker.specs.declared.ends.EndCounts.{EndCounts}
+use Rattle.tko_mux.specs.Giving.{NextOf}
 use Rattle.tko_worker.specs.Counts.{MuxAndEnds}
+use Rattle.tko_worker.specs.GivingUp.{NobodyGivesUp}
 use Rattle.tko_worker.specs.Workers.{Sight, WorkerState}
 use Rattle.tko_port.proofs.WireLemmas.{this_line}
 
@@ -53,7 +55,12 @@ none_there waits_for roster server (Some waiter) was now pipe is read here =
     let some : slice_get on.was.waiters 0 ≡ Some waiter = sym (ap first_on on.from) ∙ is in
     subst (λ (p : PipeState). AwaitsMore waits_for roster server (slice_get p.waiters 0) p) same
     (subst (λ (f : Option Waiter). AwaitsMore waits_for roster server f on.was) (sym some)
-    (record { request = read.lent; is_lent = read.is_lent; short = on.ends.1 }))
+    (record {
+      request = read.lent;
+      is_lent = subst (λ f. IsLent waits_for roster server f waiter.by read.lent)
+          (ap forms_on on.from) read.is_lent;
+      short = on.ends.1;
+    }))
 
 none_on : {S P : Type 0} (waits_for : WaitsFor S) (old : MuxState S P)
     (lines : List LineState) (server : ℕ)
@@ -106,7 +113,8 @@ pub taken_by : {L T P : Type 0} (sight : Sight L T) (asks_for : Guest L T → Op
     → result ≡ told
     → IsResponseRead (IsGuestCall sight.0 sight.1 sight.2) (λ guest. sight.0 guest.talk) asks_for
     waits_for inside.mux server due result mid
-    → ListsReached sight (mid, inside.ends) (delivery_in told) inside.touched (mux, ends) touched
+    → ListsReached sight (mid, inside.ends) (delivery_in told) inside.spent inside.touched
+    (mux, ends) touched
     → HasResponseTaken sight asks_for waits_for old server due told
     (record { mux = mux; touched = touched; spent = inside.spent; ends = ends })
 taken_by {L} {T} {P} sight asks_for waits_for inside old mid mux touched ends server due result told same is
@@ -128,7 +136,7 @@ pub left_by : {L T P : Type 0} (sight : Sight L T) (asks_for : Guest L T → Opt
     result ≡ told
     → TellEnds (IsGuestCall sight.0 sight.1 sight.2) (λ guest. sight.0 guest.talk) asks_for
     inside.mux server due result mid
-    → ListsReached sight (mid, inside.ends) told inside.touched (mux, ends) touched
+    → ListsReached sight (mid, inside.ends) told inside.spent inside.touched (mux, ends) touched
     → HasLeftNext sight asks_for old server due told
     (record { mux = mux; touched = touched; spent = inside.spent; ends = ends })
 left_by {L} {T} {P} sight asks_for inside old mid mux touched ends server due result told same is
@@ -183,3 +191,20 @@ still_done {L} {T} {P} port waits_for moment old new was now server false kept e
     (option_map port now.socket) moment) (sym kept.0)
     (subst (λ (p : Peer L). IsServerDone waits_for old.mux server (option_map port p.socket) moment)
     (sym kept.1) (record { drained = drained; time = early }))
+
+-- and where nobody is to give up, nothing else changes either
+pub done_still : {L T P : Type 0} (port : L → PortState) (waits_for : WaitsFor (Guest L T))
+    (has_next : NextOf (Guest L T)) (moment : ℕ) (old new : WorkerState L T P) (was now : Peer L)
+    (server : ℕ) (quiet late : Bool) → late ≡ false
+    → OnTrue quiet (NobodyGivesUp has_next server moment old new was now)
+    → OnTrue (not late) (IsServerDone waits_for old.mux server (option_map port was.socket) moment)
+    → OnTrue quiet (IsServerDone waits_for new.mux server (option_map port now.socket) moment)
+done_still port waits_for has_next moment old new was now server false late is none done = tt
+done_still {L} {T} {P} port waits_for has_next moment old new was now server true late is none
+    done =
+    let before = subst (λ l. OnTrue (not l)
+    (IsServerDone waits_for old.mux server (option_map port was.socket) moment)) is done in
+    subst (λ (w : WorkerState L T P). IsServerDone waits_for w.mux server
+    (option_map port now.socket) moment) (sym none.kept)
+    (subst (λ (p : Peer L). IsServerDone waits_for old.mux server (option_map port p.socket) moment)
+    (sym none.peer) before)

@@ -2,6 +2,8 @@ pub mod Acts
 pub mod Changes
 pub mod Connections
 pub mod Counts
+pub mod GivingUp
+pub mod Numbers
 pub mod Servers
 pub mod Serving
 pub mod Taking

@@ -12,7 +12,7 @@ use Rattle.tko_pipe.specs.Pipes.{PipeState}
 use Rattle.tko_roster.specs.Rosters.{RosterState}
 use Rattle.tko_mux.specs.declared.client.Client.{Client}
 use Rattle.tko_mux.specs.declared.mux.delivery.Delivery.{Delivery}
-use Rattle.tko_mux.specs.declared.mux.delivery.Delivery.TheVariants.{Probed, Reached}
+use Rattle.tko_mux.specs.declared.mux.delivery.Delivery.TheVariants.{Dropped, Probed, Reached}
 use Rattle.tko_mux.specs.Lines.{LineState}
 use Rattle.tko_mux.specs.Muxes.{IsLent, IsResponseRead, MuxState, TellEnds, WaitsFor, line_at}
 use Rattle.tko_port.specs.Peers.{delivery_in}
@@ -32,7 +32,7 @@ pub record IsUnanswered {S P : Type 0} (waits_for : WaitsFor S)
     (roster : RosterState (Client S) P) (server : ℕ) (first : Waiter) (pipe : PipeState) : Type 0
   where
     pub request : Request
-    pub is_lent : IsLent waits_for roster server first.by request
+    pub is_lent : IsLent waits_for roster server pipe.forms first.by request
     pub short : (pipe.unread ≡ []) ⊎ ReadsResponse request pipe.unread (Err fault.Short)
 
 abbrev pub AwaitsMore : {S P : Type 0} → WaitsFor S → RosterState (Client S) P → ℕ
@@ -91,11 +91,12 @@ pub record IsShutIfLate {L T P : Type 0} (server now : ℕ) (old : WorkerState L
 
 -- the client that something reached, if it reached one, is to be served in this turn
 abbrev pub ListsReached : {L T P : Type 0} → Sight L T → MuxAndEnds L T P
-    → Option (Delivery Turned) → List ℕ → MuxAndEnds L T P → List ℕ → Type 0
-ListsReached sight old None numbers new now = (new ≡ old) × (now ≡ numbers)
-ListsReached sight old (Some (Reached number done)) numbers new now =
-    ListEnds sight old number numbers new now
-ListsReached sight old (Some (Probed it)) numbers new now = (new ≡ old) × (now ≡ numbers)
+    → Option (Delivery Turned) → List ℕ → List ℕ → MuxAndEnds L T P → List ℕ → Type 0
+ListsReached sight old None off numbers new now = (new ≡ old) × (now ≡ numbers)
+ListsReached sight old (Some (Reached number done)) off numbers new now =
+    ListEnds sight old number off numbers new now
+ListsReached sight old (Some (Probed it)) off numbers new now = (new ≡ old) × (now ≡ numbers)
+ListsReached sight old (Some (Dropped number)) off numbers new now = (new ≡ old) × (now ≡ numbers)
 
 -- a response of a server was looked for; the client that it reached is to be served in this turn
 pub record HasResponseTaken {L T P : Type 0} (sight : Sight L T)
@@ -105,7 +106,7 @@ pub record HasResponseTaken {L T P : Type 0} (sight : Sight L T)
   pub mid : MuxState (Guest L T) (SharedParts P)
   pub read : IsResponseRead (IsGuestCall sight.0 sight.1 sight.2)
       (λ guest. sight.0 guest.talk) asks_for waits_for old.mux server due result mid
-  pub listed : ListsReached sight (mid, old.ends) (delivery_in result) old.touched
+  pub listed : ListsReached sight (mid, old.ends) (delivery_in result) old.spent old.touched
       (new.mux, new.ends) new.touched
   pub spent : new.spent ≡ old.spent
 
@@ -117,6 +118,6 @@ pub record HasLeftNext {L T P : Type 0} (sight : Sight L T) (asks_for : Guest L 
   pub mid : MuxState (Guest L T) (SharedParts P)
   pub left : TellEnds (IsGuestCall sight.0 sight.1 sight.2) (λ guest. sight.0 guest.talk) asks_for
       old.mux server due result mid
-  pub listed : ListsReached sight (mid, old.ends) result old.touched (new.mux, new.ends)
-      new.touched
+  pub listed : ListsReached sight (mid, old.ends) result old.spent old.touched
+      (new.mux, new.ends) new.touched
   pub spent : new.spent ≡ old.spent

@@ -6,7 +6,7 @@ use Rattle.tko_roster.specs.Rosters.{AreReady, IsAdmitted, IsMoved, IsReleased, 
 use Rattle.tko_mux.specs.declared.client.Client.{Client}
 use Rattle.tko_mux.specs.declared.asking.Given.TheVariants.{Input}
 use Rattle.tko_mux.specs.declared.mux.delivery.Delivery.{Delivery}
-use Rattle.tko_mux.specs.declared.mux.delivery.Delivery.TheVariants.{Probed, Reached}
+use Rattle.tko_mux.specs.declared.mux.delivery.Delivery.TheVariants.{Dropped, Probed, Reached}
 use Rattle.tko_mux.specs.declared.mux.delivery.Done.{Done}
 use Rattle.tko_mux.specs.Linking.{AreLinked, IsNotForgotten}
 use Rattle.tko_mux.specs.Muxes.{IsMade, MuxState}
@@ -28,9 +28,11 @@ use Rattle.tko_port.specs.declared.settling.End.TheVariants.{Memory}
 use Rattle.tko_port.specs.declared.talking.Tally.{Tally}
 use Rattle.tko_port.specs.Talks.{Readiness, Talk, tally_of}
 use Rattle.tko_worker.specs.Counts.{MuxAndEnds, counted_end}
+use Rattle.tko_worker.specs.Numbers.{IsAmong, IsIn}
 
 -- the clients and their servers; the numbers of clients that are to be served in this turn; those
--- that are served again in the next; and how many ended since their ends were taken
+-- that were put off, which are served after them, a few in each turn; and how many ended since their
+-- ends were taken
 pub record WorkerState (L T P : Type 0) : Type 0 where
   pub mux : MuxState (Guest L T) (SharedParts P)
   pub touched : List ℕ
@@ -47,11 +49,6 @@ abbrev pub tally_at : {L T : Type 0} → (T → Talk) → List (Option (Client (
 tally_at talk slots number =
     option_and_then (λ client. tally_by client.session.presence (talk client.session.talk))
     (session_at slots number)
-
--- this number is among those
-abbrev pub IsIn : ℕ → List ℕ → Type 0
-IsIn number [] = ⊥
-IsIn number (it ∷ others) = (it ≡ number) ⊎ IsIn number others
 
 -- what is seen of a guest
 abbrev pub Sight : Type 0 → Type 0 → Type 0
@@ -87,11 +84,12 @@ pub record IsInOrder {L T P : Type 0} (sight : Sight L T) (is_ready : Readiness 
   pub linked : AreLinked (λ guest. sight.0 guest.talk) worker.mux.roster.slots worker.mux.lines
   pub nobody : NobodyForgotten sight worker.mux.roster.slots worker.touched worker.spent
 
--- a number was noted as one that is to be served, or it rests
+-- a number was noted as one that is to be served, or it rests, or waits among those that were put
+-- off
 abbrev pub IsNotedToServe : {L T : Type 0} → Sight L T → List (Option (Client (Guest L T))) → ℕ
-    → List ℕ → List ℕ → Type 0
-IsNotedToServe sight slots number old new =
-    (RestAt sight slots number × (new ≡ old)) ⊎ (new ≡ old ++ number ∷ [])
+    → List ℕ → List ℕ → List ℕ → Type 0
+IsNotedToServe sight slots number off old new =
+    ((RestAt sight slots number ⊎ IsIn number off) × (new ≡ old)) ⊎ IsAmong number old new
 
 -- an event was noted at a number's client. Its session, all others and all else stay
 pub record IsNotedAt {L T P : Type 0} (port : L → PortState) (event : ClientEvent)
@@ -142,20 +140,22 @@ pub data DropEnds {L T P : Type 0} (sight : Sight L T) (why : End) (old : MuxAnd
   left : HasLeft sight.0 old.0 number new.0 → new.1 ≡ counted_end why old.1
       → DropEnds sight why old number new
 
--- a number was noted as one that is to be served; or memory ran out for that, and its client was to
--- leave
+-- a number was noted as one that is to be served; or it waits among those that were put off; or
+-- memory ran out for that, and its client was to leave
 pub data ListEnds {L T P : Type 0} (sight : Sight L T) (old : MuxAndEnds L T P) (number : ℕ)
-    (numbers : List ℕ) (new : MuxAndEnds L T P) (now : List ℕ) : Type 0 where
-  listed : now ≡ numbers ++ number ∷ [] → new ≡ old → ListEnds sight old number numbers new now
+    (off numbers : List ℕ) (new : MuxAndEnds L T P) (now : List ℕ) : Type 0 where
+  listed : IsAmong number numbers now → new ≡ old → ListEnds sight old number off numbers new now
+  waits : IsIn number off → now ≡ numbers → new ≡ old
+      → ListEnds sight old number off numbers new now
   lost : now ≡ numbers → DropEnds sight Memory old number new
-      → ListEnds sight old number numbers new now
+      → ListEnds sight old number off numbers new now
 
 -- an event came for a number, and its client is to be served in this turn
 pub record IsNoted {L T P : Type 0} (sight : Sight L T) (event : ClientEvent)
     (old : WorkerState L T P) (number : ℕ) (new : WorkerState L T P) : Type 0 where
   pub reached : MuxState (Guest L T) (SharedParts P)
   pub has_reached : HasReached sight.2 event old.mux number reached
-  pub listed : ListEnds sight (reached, old.ends) number old.touched (new.mux, new.ends)
+  pub listed : ListEnds sight (reached, old.ends) number old.spent old.touched (new.mux, new.ends)
       new.touched
   pub spent : new.spent ≡ old.spent
 
@@ -167,7 +167,8 @@ pub record IsClientOpened {L T P : Type 0} (sight : Sight L T) (old : WorkerStat
       (record { session = record { port = port; talk = talk; presence = Here } }) mid.roster
   pub lines : mid.lines ≡ old.mux.lines
   pub limit : mid.limit ≡ old.mux.limit
-  pub listed : ListEnds sight (mid, old.ends) number old.touched (new.mux, new.ends) new.touched
+  pub listed : ListEnds sight (mid, old.ends) number old.spent old.touched (new.mux, new.ends)
+      new.touched
   pub spent : new.spent ≡ old.spent
 
 -- the client of a number was served, asked a server, and can go on
@@ -197,22 +198,26 @@ IsSpentAfter {L} {T} {P} sight asks_for old number due =
     (mid : MuxState (Guest L T) (SharedParts P)) × WasServed sight asks_for old number due mid
 
 -- what serving a number comes to: it rests; or it was served, and is noted as one that is served
--- again
+-- again, behind the others that were put off
 abbrev pub IsNumberServed : {L T P : Type 0} → Sight L T → (Guest L T → Option Request)
     → MuxState (Guest L T) (SharedParts P) → ℕ → ℕ → MuxState (Guest L T) (SharedParts P)
     → List ℕ → List ℕ → Type 0
 IsNumberServed sight asks_for old number due new spent now_spent =
     (RestAt sight new.roster.slots number × (now_spent ≡ spent))
-    ⊎ (IsSpentAfter sight asks_for old number due × (now_spent ≡ spent ++ number ∷ []))
+    ⊎ (IsSpentAfter sight asks_for old number due × IsAmong number spent now_spent)
 
 -- the others have their clients as before, than the one that something reached, if it reached one
 abbrev pub OthersStayFor : {L T : Type 0} → Delivery Turned → List (Option (Client (Guest L T)))
     → List (Option (Client (Guest L T))) → Type 0
 OthersStayFor (Reached number done) old new = OthersStay number old new
 OthersStayFor (Probed it) old new = (other : ℕ) → session_at new other ≡ session_at old other
+OthersStayFor (Dropped number) old new =
+    (other : ℕ) → session_at new other ≡ session_at old other
 
 -- the client that something reached, if it reached one, was noted as one that is to be served
 abbrev pub IsListedFor : {L T : Type 0} → Sight L T → List (Option (Client (Guest L T)))
-    → Delivery Turned → List ℕ → List ℕ → Type 0
-IsListedFor sight slots (Reached number done) old new = IsNotedToServe sight slots number old new
-IsListedFor sight slots (Probed it) old new = new ≡ old
+    → Delivery Turned → List ℕ → List ℕ → List ℕ → Type 0
+IsListedFor sight slots (Reached number done) off old new =
+    IsNotedToServe sight slots number off old new
+IsListedFor sight slots (Probed it) off old new = new ≡ old
+IsListedFor sight slots (Dropped number) off old new = new ≡ old

@@ -21,9 +21,8 @@ use tko_pace::TurnMoments;
 use tko_pipe::{Link, ShutCause};
 use tko_port::{ClientEvent, Guest, Peer, Port, SharedParts, Talking, first_due, is_connecting};
 
-/// The clients of a worker, and the sockets to its servers. A turn of events begins by
-/// `begin_turn`; then what came is noted, `serve` does what can be done for the clients, and
-/// `finish` writes to the servers.
+/// The clients of a worker, and the sockets to its servers. In a turn of events what came is noted,
+/// `serve` does what can be done for the clients, and `finish` writes to the servers.
 #[derive(Drop)]
 pub struct EventWorker<L, T, P> {
     pub clients: Worker<L, T, P>,
@@ -253,16 +252,6 @@ impl<P, L: Port + Drop, T: Talking<P> + Drop> EventWorker<L, T, P> {
         } = self;
         drop((peers, awake));
         clients.into_parts()
-    }
-
-    /// A turn of events begins.
-    pub fn begin_turn(&mut self)
-        requires { IsInOrder (T.awaited, T.talk, L.port) T.ready self.old.clients }
-        ensures order { IsInOrder (T.awaited, T.talk, L.port) T.ready self.new.clients }
-        ensures mux { self.new.clients.mux ≡ self.old.clients.mux }
-        ensures peers { self.new.peers ≡ self.old.peers }
-    {
-        self.clients.begin_turn();
     }
 
     /// Does what can be done in this turn for the clients: what came from the servers is read and

@@ -10,7 +10,9 @@
 
 mod ends;
 mod event_worker;
+mod giving_up;
 mod law;
+mod numbers;
 mod resting;
 mod rounds;
 mod servers;

@@ -101,13 +101,13 @@ pub fn earlier(one: Option<u64>, other: Option<u64>) -> Option<u64>
     }
 }
 
-/// Whether no client is served again in the next turn.
+/// Whether no client was put off.
 pub(crate) fn none_is_left<P, L: Port + Drop, T: Talking<P> + Drop>(
     clients: &Worker<L, T, P>,
 ) -> bool
     ensures { OnTrue result (clients.now.spent ≡ []) }
 {
-    clients.spent().is_empty()
+    clients.put_off() == 0
 }
 
 /// Whether nobody waits for a server whose connection was made, and nothing can be read from it. So

@@ -1,6 +1,7 @@
 //! The servers of a worker, from one event to the next.
 ghost use Rattle.std.specs.Prelude.{◌≡◌, ◌<◌, None, length, option_map};
 ghost use Rattle.std.specs.Bool.{OnFalse, OnTrue};
+ghost use Rattle.tko_mux.specs.Giving.{AllWaitOn};
 ghost use Rattle.tko_mux.specs.Muxes.{MayShut, line_at};
 ghost use Rattle.tko_pipe.specs.Pipes.{IsCause, PipeState};
 ghost use Rattle.tko_worker.specs.Acts.{ActsInOrder, HasActed};
@@ -70,8 +71,8 @@ impl<P, L: Port + Drop, T: Talking<P> + Drop> Worker<L, T, P> {
 
     /// Does for a server what can be done before the clients are served: those that waited on a
     /// connection that was shut leave; what its port has is read, and the responses reach their
-    /// clients; and then a connection whose first response is late is shut. Returns whether that
-    /// was all.
+    /// clients; then a connection whose first response is late is shut, or those that wait too
+    /// long behind others go on to their next targets. Returns whether that was all.
     pub(crate) fn serve_server(
         &mut self,
         alloc: Global,
@@ -85,6 +86,9 @@ impl<P, L: Port + Drop, T: Talking<P> + Drop> Worker<L, T, P> {
         ensures done { OnTrue result
             (IsServerDone ⟦<Guest<L, T> as Asking<SharedParts<P>>>⟧.waits_for self.new.mux server
             (option_map L.port peer.new.socket) moments.judged) }
+        ensures wait { OnTrue result (AllWaitOn
+            ⟦<Guest<L, T> as Asking<SharedParts<P>>>⟧.has_next self.new.mux server
+            moments.judged) }
         ensures held { IsHeld (option_map L.port peer.new.socket) (line_at self.new.mux server) }
         ensures acts { ActsInOrder (T.awaited, T.talk, L.port) T.ready self.old self.new }
     {
@@ -94,7 +98,10 @@ impl<P, L: Port + Drop, T: Talking<P> + Drop> Worker<L, T, P> {
         if !self.pull(alloc, peer, server, moments, buffer) {
             return false;
         }
-        !self.expire(peer, server, moments.judged())
+        if self.expire(peer, server, moments.judged()) {
+            return false;
+        }
+        self.give_up_late(alloc, peer, server, moments)
     }
 
     /// All that waited on a connection that was shut leave. Returns whether none is left.

@@ -1,5 +1,5 @@
 //! One client is served, or noted as one that is to be served; where it ends, that is counted.
-ghost use Rattle.std.specs.Prelude.{◌≡◌, Some};
+ghost use Rattle.std.specs.Prelude.{◌≡◌, Some, []};
 ghost use Rattle.std.specs.Bool.{OnFalse, OnTrue};
 ghost use Rattle.tko_mux.specs.Linking.{IsNotForgotten};
 ghost use Rattle.tko_mux.specs.Muxes.{IsMuxInOrder};
@@ -9,6 +9,7 @@ ghost use Rattle.tko_worker.specs.Serving.{OnceEnds, ServeCounts, SpentEnds};
 ghost use Rattle.tko_worker.specs.Workers.{DropEnds, IsHere, IsListedFor, IsNotedToServe, IsNumberServed, ListEnds, OthersStay, OthersStayFor, RestAt};
 
 use crate::EndCounts;
+use crate::numbers::Numbers;
 use std::alloc::Global;
 use tko_mux::{Asking, Client, Delivery, Mux};
 use tko_port::{
@@ -30,10 +31,10 @@ pub(crate) enum AfterServing {
     Later,
 }
 
-/// Serves a client, and notes its number if it is to be served again.
+/// Serves a client, and puts it off if it is to be served again.
 pub(crate) fn serve<P, L: Port + Drop, T: Talking<P> + Drop>(
     mux: &mut Mux<Guest<L, T>, SharedParts<P>>,
-    spent: &mut Vec<usize>,
+    spent: &mut Numbers,
     ends: &mut EndCounts,
     alloc: Global,
     number: usize,
@@ -43,7 +44,7 @@ pub(crate) fn serve<P, L: Port + Drop, T: Talking<P> + Drop>(
         ⟦<Guest<L, T> as Asking<SharedParts<P>>>⟧.awaited mux.old }
     ensures served { IsNumberServed (T.awaited, T.talk, L.port)
         ⟦<Guest<L, T> as Asking<SharedParts<P>>>⟧.asks_for mux.old number due mux.new
-        spent.old.items spent.new.items }
+        spent.old spent.new }
     ensures counted { ServeCounts (T.awaited, T.talk, L.port)
         ⟦<Guest<L, T> as Asking<SharedParts<P>>>⟧.asks_for (mux.old, ends.old) number due
         (mux.new, ends.new) }
@@ -54,14 +55,15 @@ pub(crate) fn serve<P, L: Port + Drop, T: Talking<P> + Drop>(
         ⟦<Guest<L, T> as Asking<SharedParts<P>>>⟧.awaited mux.new }
 {
     if is_spent(mux, ends, alloc, number, due) {
-        list(mux, spent, ends, alloc, number);
+        put(mux, spent, ends, alloc, number);
     }
 }
 
 /// Notes the client that something reached, so that it is served.
 pub(crate) fn list_reached<P, L: Port + Drop, T: Talking<P> + Drop>(
     mux: &mut Mux<Guest<L, T>, SharedParts<P>>,
-    numbers: &mut Vec<usize>,
+    off: &Numbers,
+    numbers: &mut Numbers,
     ends: &mut EndCounts,
     alloc: Global,
     delivery: &Delivery<Turned>,
@@ -69,36 +71,61 @@ pub(crate) fn list_reached<P, L: Port + Drop, T: Talking<P> + Drop>(
     requires order { IsMuxInOrder ⟦<Client<Guest<L, T>> as Driven<SharedParts<P>>>⟧.ready
         ⟦<Guest<L, T> as Asking<SharedParts<P>>>⟧.awaited mux.old }
     ensures ends { ListsReached (T.awaited, T.talk, L.port) (mux.old, ends.old)
-        (Some delivery.now) numbers.old.items (mux.new, ends.new) numbers.new.items }
+        (Some delivery.now) off.now numbers.old (mux.new, ends.new) numbers.new }
     ensures listed { IsListedFor (T.awaited, T.talk, L.port) mux.new.roster.slots delivery.now
-        numbers.old.items numbers.new.items }
+        off.now numbers.old numbers.new }
     ensures others { OthersStayFor delivery.now mux.old.roster.slots mux.new.roster.slots }
     ensures lines { mux.new.lines ≡ mux.old.lines }
     ensures order { IsMuxInOrder ⟦<Client<Guest<L, T>> as Driven<SharedParts<P>>>⟧.ready
         ⟦<Guest<L, T> as Asking<SharedParts<P>>>⟧.awaited mux.new }
 {
     match delivery {
-        Delivery::Reached(number, _) => list(mux, numbers, ends, alloc, *number),
-        Delivery::Probed(_) => {}
+        Delivery::Reached(number, _) => list(mux, off, numbers, ends, alloc, *number),
+        Delivery::Probed(_) | Delivery::Dropped(_) => {}
     }
 }
 
-/// Notes a number, so that its client is served. Without memory for that its client leaves, which
-/// counts as an end for want of memory; if a request of it is under way it stays where it rests,
-/// and else leaves as soon as none is.
+/// Notes a number, so that its client is served, unless that waits among those that were put off.
 pub(crate) fn list<P, L: Port + Drop, T: Talking<P> + Drop>(
     mux: &mut Mux<Guest<L, T>, SharedParts<P>>,
-    numbers: &mut Vec<usize>,
+    off: &Numbers,
+    numbers: &mut Numbers,
     ends: &mut EndCounts,
     alloc: Global,
     number: usize,
 )
     requires order { IsMuxInOrder ⟦<Client<Guest<L, T>> as Driven<SharedParts<P>>>⟧.ready
         ⟦<Guest<L, T> as Asking<SharedParts<P>>>⟧.awaited mux.old }
-    ensures ends { ListEnds (T.awaited, T.talk, L.port) (mux.old, ends.old) number
-        numbers.old.items (mux.new, ends.new) numbers.new.items }
+    ensures ends { ListEnds (T.awaited, T.talk, L.port) (mux.old, ends.old) number off.now
+        numbers.old (mux.new, ends.new) numbers.new }
     ensures listed { IsNotedToServe (T.awaited, T.talk, L.port) mux.new.roster.slots number
-        numbers.old.items numbers.new.items }
+        off.now numbers.old numbers.new }
+    ensures lines { mux.new.lines ≡ mux.old.lines }
+    ensures others { OthersStay number mux.old.roster.slots mux.new.roster.slots }
+    ensures order { IsMuxInOrder ⟦<Client<Guest<L, T>> as Driven<SharedParts<P>>>⟧.ready
+        ⟦<Guest<L, T> as Asking<SharedParts<P>>>⟧.awaited mux.new }
+{
+    if !off.has(number) {
+        put(mux, numbers, ends, alloc, number);
+    }
+}
+
+/// Puts a number behind the others. Without memory for that its client leaves, which counts as an
+/// end for want of memory; if a request of it is under way it stays where it rests, and else leaves
+/// as soon as none is.
+fn put<P, L: Port + Drop, T: Talking<P> + Drop>(
+    mux: &mut Mux<Guest<L, T>, SharedParts<P>>,
+    numbers: &mut Numbers,
+    ends: &mut EndCounts,
+    alloc: Global,
+    number: usize,
+)
+    requires order { IsMuxInOrder ⟦<Client<Guest<L, T>> as Driven<SharedParts<P>>>⟧.ready
+        ⟦<Guest<L, T> as Asking<SharedParts<P>>>⟧.awaited mux.old }
+    ensures ends { ListEnds (T.awaited, T.talk, L.port) (mux.old, ends.old) number []
+        numbers.old (mux.new, ends.new) numbers.new }
+    ensures listed { IsNotedToServe (T.awaited, T.talk, L.port) mux.new.roster.slots number
+        [] numbers.old numbers.new }
     ensures lines { mux.new.lines ≡ mux.old.lines }
     ensures others { OthersStay number mux.old.roster.slots mux.new.roster.slots }
     ensures order { IsMuxInOrder ⟦<Client<Guest<L, T>> as Driven<SharedParts<P>>>⟧.ready

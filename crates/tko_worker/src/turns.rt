@@ -1,18 +1,22 @@
 //! A turn of events of a worker's clients: what came is noted, and those that are to be served are.
-ghost use Rattle.std.specs.Prelude.{◌≡◌, ◌<◌, [], IfNone, length};
+ghost use Rattle.std.specs.Prelude.{◌≡◌, ◌<◌, ◌≤◌, [], IfNone, length};
 ghost use Rattle.tko_mux.specs.Muxes.{HasNoneLeaving, MayShut, line_at};
 ghost use Rattle.tko_port.specs.Guests.{IsNotice};
 ghost use Rattle.tko_worker.specs.Acts.{HasActed};
+ghost use Rattle.tko_worker.specs.Numbers.{IsTurnTaken, put_off_served};
 ghost use Rattle.tko_worker.specs.Servers.{HasLeftNext, HasResponseTaken};
 ghost use Rattle.tko_worker.specs.Workers.{IsInOrder, IsNoted};
 
 use crate::Worker;
 use crate::serving::{list, list_reached, serve};
 use std::alloc::Global;
-use std::mem::swap;
 use tko_mux::{Asking, Delivery};
 use tko_pipe::ShutCause;
 use tko_port::{ClientEvent, End, Guest, Port, SharedParts, Talking, Turned};
+
+/// How many of those that were put off are served in one turn. It is small, so that a turn is short
+/// however many clients always have more to do.
+const PUT_OFF_SERVED: usize = 4;
 
 impl<P, L: Port + Drop, T: Talking<P> + Drop> Worker<L, T, P> {
     /// An event said that a client's port is readable.
@@ -72,6 +76,7 @@ impl<P, L: Port + Drop, T: Talking<P> + Drop> Worker<L, T, P> {
         let _ = self.mux.act(alloc, number, event, 0);
         list(
             &mut self.mux,
+            &self.spent,
             &mut self.touched,
             &mut self.ends,
             alloc,
@@ -101,6 +106,7 @@ impl<P, L: Port + Drop, T: Talking<P> + Drop> Worker<L, T, P> {
             Ok(Some(delivery)) => {
                 list_reached(
                     &mut self.mux,
+                    &self.spent,
                     &mut self.touched,
                     &mut self.ends,
                     alloc,
@@ -128,6 +134,7 @@ impl<P, L: Port + Drop, T: Talking<P> + Drop> Worker<L, T, P> {
             Some(delivery) => {
                 list_reached(
                     &mut self.mux,
+                    &self.spent,
                     &mut self.touched,
                     &mut self.ends,
                     alloc,
@@ -139,28 +146,56 @@ impl<P, L: Port + Drop, T: Talking<P> + Drop> Worker<L, T, P> {
         }
     }
 
-    /// The next turn begins: those that were left for it are to be served.
-    pub fn begin_turn(&mut self)
-        requires { IsInOrder (T.awaited, T.talk, L.port) T.ready self.old }
-        ensures order { IsInOrder (T.awaited, T.talk, L.port) T.ready self.new }
-        ensures spent { self.old.touched ≡ [] → self.new.spent ≡ [] }
-        ensures mux { self.new.mux ≡ self.old.mux }
-        ensures ends { self.new.ends ≡ self.old.ends }
-    {
-        swap(&mut self.touched, &mut self.spent);
-    }
-
-    /// Serves all clients that are to be served in this turn. After it each client rests, or is
-    /// served again in the next turn. A request that a client sends is due at this moment.
+    /// Serves all clients that are to be served in this turn, and then the first of those that were
+    /// put off in earlier ones, in their order. After it each client rests, or was put off. A
+    /// request that a client sends is due at this moment.
     pub fn end_turn(&mut self, alloc: Global, due: u64)
         requires order { IsInOrder (T.awaited, T.talk, L.port) T.ready self.old }
         ensures served { self.new.touched ≡ [] }
+        ensures taken { IsTurnTaken put_off_served self.old.spent self.new.spent }
+        ensures acted { HasActed (T.awaited, T.talk, L.port) self.old self.new }
+        ensures order { IsInOrder (T.awaited, T.talk, L.port) T.ready self.new }
+    {
+        let count = self.spent.len().min(PUT_OFF_SERVED);
+        self.serve_touched(alloc, due);
+        self.serve_put_off(alloc, due, count);
+    }
+
+    /// Serves all clients that are to be served in this turn.
+    fn serve_touched(&mut self, alloc: Global, due: u64)
+        requires order { IsInOrder (T.awaited, T.talk, L.port) T.ready self.old }
+        ensures served { self.new.touched ≡ [] }
+        ensures later { IsTurnTaken 0 self.old.spent self.new.spent }
         ensures acted { HasActed (T.awaited, T.talk, L.port) self.old self.new }
         ensures order { IsInOrder (T.awaited, T.talk, L.port) T.ready self.new }
     {
         for _ in 0..self.touched.len() {
             let Some(number) = self.touched.pop() else {
                 return;
+            };
+            serve(
+                &mut self.mux,
+                &mut self.spent,
+                &mut self.ends,
+                alloc,
+                number,
+                due,
+            );
+        }
+    }
+
+    /// Serves so many of those that were put off.
+    fn serve_put_off(&mut self, alloc: Global, due: u64, count: usize)
+        requires few { count ≤ length self.old.spent }
+        requires order { IsInOrder (T.awaited, T.talk, L.port) T.ready self.old }
+        ensures touched { self.new.touched ≡ self.old.touched }
+        ensures taken { IsTurnTaken count self.old.spent self.new.spent }
+        ensures acted { HasActed (T.awaited, T.talk, L.port) self.old self.new }
+        ensures order { IsInOrder (T.awaited, T.talk, L.port) T.ready self.new }
+    {
+        for _ in 0..count {
+            let Some(number) = self.spent.pop() else {
+                unreachable!();
             };
             serve(
                 &mut self.mux,

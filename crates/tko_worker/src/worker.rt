@@ -10,6 +10,7 @@ ghost use Rattle.tko_worker.specs.Counts.{no_ends};
 ghost use Rattle.tko_worker.specs.Workers.{IsClientOpened, IsInOrder, tally_at};
 
 use crate::EndCounts;
+use crate::numbers::Numbers;
 use crate::serving::list;
 use std::alloc::Global;
 use std::marker::Model;
@@ -23,9 +24,10 @@ use tko_port::{Guest, Port, Presence, SharedParts, Talking, Tally};
 pub struct Worker<L, T, P> {
     pub(crate) mux: Mux<Guest<L, T>, SharedParts<P>>,
     /// The numbers of clients that are to be served in this turn.
-    pub(crate) touched: Vec<usize>,
-    /// The numbers of clients that are to be served again in the next turn.
-    pub(crate) spent: Vec<usize>,
+    pub(crate) touched: Numbers,
+    /// The numbers of clients that were put off, since they had their share: they are served after
+    /// the others, a few in each turn.
+    pub(crate) spent: Numbers,
     /// The clients that ended since their ends were taken.
     pub(crate) ends: EndCounts,
 }
@@ -37,8 +39,8 @@ impl<L, T, P> Model for Worker<L, T, P> {
 
     ghost view = { λ w. record {
       mux = w.mux;
-      touched = w.touched.items;
-      spent = w.spent.items;
+      touched = w.touched;
+      spent = w.spent;
       ends = w.ends;
     } };
 }
@@ -61,8 +63,8 @@ impl<P: Drop, L: Port + Drop, T: Talking<P> + Drop> Worker<L, T, P> {
         match Mux::new(alloc, shared, servers, limit) {
             Ok(mux) => Ok(Worker {
                 mux,
-                touched: Vec::new(alloc),
-                spent: Vec::new(alloc),
+                touched: Numbers::new(alloc),
+                spent: Numbers::new(alloc),
                 ends: EndCounts::none(),
             }),
             Err(back) => Err(back),
@@ -91,6 +93,7 @@ impl<P, L: Port + Drop, T: Talking<P> + Drop> Worker<L, T, P> {
         let number = self.mux.open(guest)?;
         list(
             &mut self.mux,
+            &self.spent,
             &mut self.touched,
             &mut self.ends,
             alloc,
@@ -170,12 +173,11 @@ impl<P, L: Port + Drop, T: Talking<P> + Drop> Worker<L, T, P> {
         replace(&mut self.ends, EndCounts::none())
     }
 
-    /// The clients that are served again in the next turn. Where there is one, that turn waits for
-    /// no event.
-    pub fn spent(&self) -> &[usize]
-        ensures { result.now ≡ self.now.spent }
+    /// How many clients were put off. Where there is one, the next turn waits for no event.
+    pub fn put_off(&self) -> usize
+        ensures { result ≡ length self.now.spent }
     {
-        self.spent.as_slice()
+        self.spent.len()
     }
 
     /// The parts that all sessions shared, at the end. The clients are dropped, and their ports

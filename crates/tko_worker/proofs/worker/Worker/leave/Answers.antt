@@ -11,8 +11,8 @@ returns-in-Some-clause-order g c = record {
   linked = c.list_reached.ensures.order.linked;
   nobody = one_reached (g.T.Talking.awaited, g.T.Talking.talk, g.L.Port.port)
       c.self.inside.mux.roster.slots c.leave.new.self.roster.slots
-      c.list_reached.new.mux.roster.slots c.in-Some.delivery c.self.inside.touched.items
-      c.list_reached.new.numbers.items c.self.inside.spent.items
+      c.list_reached.new.mux.roster.slots c.in-Some.delivery c.self.inside.touched
+      c.list_reached.new.numbers c.self.inside.spent
       (subst (λ (w : WorkerState _ _ _). NobodyForgotten
       (g.T.Talking.awaited, g.T.Talking.talk, g.L.Port.port) w.mux.roster.slots w.touched w.spent)
       (sym c.self.view_is) c.requires.order.nobody)
@@ -26,7 +26,7 @@ pub returns-in-Some-clause-told : goal.returns-in-Some-clause-told
 returns-in-Some-clause-told g c =
     left_by (g.T.Talking.awaited, g.T.Talking.talk, g.L.Port.port)
     (λ guest. g.T.Talking.asks_for guest.talk) _ c.args.self.now c.leave.new.self
-    c.list_reached.new.mux c.list_reached.new.numbers.items c.list_reached.new.ends c.args.server
+    c.list_reached.new.mux c.list_reached.new.numbers c.list_reached.new.ends c.args.server
     c.args.due c.leave.result
     (Some c.in-Some.delivery) c.self.view_is c.in-Some.is c.leave.ensures.left
     c.list_reached.ensures.ends
@@ -35,7 +35,7 @@ pub returns-in-None-clause-told : goal.returns-in-None-clause-told
 returns-in-None-clause-told g c =
     left_by (g.T.Talking.awaited, g.T.Talking.talk, g.L.Port.port)
     (λ guest. g.T.Talking.asks_for guest.talk) _ c.args.self.now c.leave.new.self c.leave.new.self
-    c.self.inside.touched.items c.self.inside.ends c.args.server c.args.due c.leave.result None
+    c.self.inside.touched c.self.inside.ends c.args.server c.args.due c.leave.result None
     c.self.view_is
     c.in-None.is c.leave.ensures.left (refl, refl)
 

@@ -15,8 +15,8 @@ returns-clause-order g c = record {
   linked = c.list.ensures.order.linked;
   nobody = one_listed (g.T.Talking.awaited, g.T.Talking.talk, g.L.Port.port)
       c.self.inside.mux.roster.slots c.act.new.self.roster.slots
-      c.list.new.mux.roster.slots c.args.number c.self.inside.touched.items
-      c.list.new.numbers.items c.self.inside.spent.items
+      c.list.new.mux.roster.slots c.args.number c.self.inside.touched
+      c.list.new.numbers c.self.inside.spent
       (subst (λ (w : WorkerState _ _ _). NobodyForgotten
       (g.T.Talking.awaited, g.T.Talking.talk, g.L.Port.port) w.mux.roster.slots w.touched w.spent)
       (sym c.self.view_is) c.requires.order.nobody)
@@ -33,8 +33,8 @@ returns-clause-noted g c =
     (g.T.Talking.awaited, g.T.Talking.talk, g.L.Port.port) c.args.event w c.args.number
     (record {
       mux = c.list.new.mux;
-      touched = c.list.new.numbers.items;
-      spent = c.self.inside.spent.items;
+      touched = c.list.new.numbers;
+      spent = c.self.inside.spent;
       ends = c.list.new.ends;
     }))
     c.self.view_is
@@ -57,8 +57,8 @@ returns-clause-acted g c =
     ) w
     (record {
       mux = c.list.new.mux;
-      touched = c.list.new.numbers.items;
-      spent = c.self.inside.spent.items;
+      touched = c.list.new.numbers;
+      spent = c.self.inside.spent;
       ends = c.list.new.ends;
     })) c.self.view_is
     (acted_on (g.T.Talking.awaited, g.T.Talking.talk, g.L.Port.port)
@@ -69,4 +69,4 @@ returns-clause-acted g c =
     c.args.number 0 (Input c.args.event) c.act.result c.act.ensures.some c.act.ensures.kept)
     (listed_acted (g.T.Talking.awaited, g.T.Talking.talk, g.L.Port.port)
     (c.act.new.self, c.self.inside.ends) (c.list.new.mux, c.list.new.ends) c.args.number
-    c.self.inside.touched.items c.list.new.numbers.items c.list.ensures.ends))
+    c.self.inside.spent c.self.inside.touched c.list.new.numbers c.list.ensures.ends))

@@ -12,8 +12,8 @@ returns-clause-order g c = record {
   linked = c.list.ensures.order.linked;
   nobody = one_listed (g.T.Talking.awaited, g.T.Talking.talk, g.L.Port.port)
       c.self.inside.mux.roster.slots c.open.new.self.roster.slots
-      c.list.new.mux.roster.slots c.in_ok-number.number c.self.inside.touched.items
-      c.list.new.numbers.items c.self.inside.spent.items
+      c.list.new.mux.roster.slots c.in_ok-number.number c.self.inside.touched
+      c.list.new.numbers c.self.inside.spent
       (subst (λ (w : WorkerState _ _ _). NobodyForgotten
       (g.T.Talking.awaited, g.T.Talking.talk, g.L.Port.port) w.mux.roster.slots w.touched w.spent)
       (sym c.self.view_is) c.requires.order.nobody)
@@ -33,8 +33,8 @@ returns-clause-ok g c =
     w c.args.port c.args.talk c.in_ok-number.number
     (record {
       mux = c.list.new.mux;
-      touched = c.list.new.numbers.items;
-      spent = c.self.inside.spent.items;
+      touched = c.list.new.numbers;
+      spent = c.self.inside.spent;
       ends = c.list.new.ends;
     })) c.self.view_is
     (record {

@@ -11,8 +11,8 @@ returns-in-Ok-Some-clause-order g c = record {
   linked = c.list_reached.ensures.order.linked;
   nobody = one_reached (g.T.Talking.awaited, g.T.Talking.talk, g.L.Port.port)
       c.self.inside.mux.roster.slots c.take.new.self.roster.slots
-      c.list_reached.new.mux.roster.slots c.in-Ok-Some.delivery c.self.inside.touched.items
-      c.list_reached.new.numbers.items c.self.inside.spent.items
+      c.list_reached.new.mux.roster.slots c.in-Ok-Some.delivery c.self.inside.touched
+      c.list_reached.new.numbers c.self.inside.spent
       (subst (λ (w : WorkerState _ _ _). NobodyForgotten
       (g.T.Talking.awaited, g.T.Talking.talk, g.L.Port.port) w.mux.roster.slots w.touched w.spent)
       (sym c.self.view_is) c.requires.order.nobody)
@@ -30,7 +30,7 @@ returns-in-Ok-None-clause-order g c = record {
   nobody = unread_nobody (g.T.Talking.awaited, g.T.Talking.talk, g.L.Port.port)
       (λ guest. g.T.Talking.asks_for guest.talk)
       (λ guest. g.T.Talking.waits_for guest.talk) c.self.inside.mux c.take.new.self c.args.server
-      c.args.due c.self.inside.touched.items c.self.inside.spent.items c.take.result
+      c.args.due c.self.inside.touched c.self.inside.spent c.take.result
       c.take.ensures.read
       (λ delivery is. let none : c.take.result ≡ Ok None = search rules in
       let both : Ok None ≡ Ok (Some delivery) = sym none ∙ is in let f : ⊥ = cc both in f)
@@ -46,7 +46,7 @@ returns-in-Err-clause-order g c = record {
   nobody = unread_nobody (g.T.Talking.awaited, g.T.Talking.talk, g.L.Port.port)
       (λ guest. g.T.Talking.asks_for guest.talk)
       (λ guest. g.T.Talking.waits_for guest.talk) c.self.inside.mux c.take.new.self c.args.server
-      c.args.due c.self.inside.touched.items c.self.inside.spent.items c.take.result
+      c.args.due c.self.inside.touched c.self.inside.spent c.take.result
       c.take.ensures.read
       (λ delivery is. let both = sym c.in-Err.is ∙ is in let f : ⊥ = cc both in f)
       (subst (λ (w : WorkerState _ _ _). NobodyForgotten
@@ -59,7 +59,7 @@ returns-in-Ok-Some-clause-taken g c =
     taken_by (g.T.Talking.awaited, g.T.Talking.talk, g.L.Port.port)
     (λ guest. g.T.Talking.asks_for guest.talk)
     (λ guest. g.T.Talking.waits_for guest.talk) _ c.args.self.now c.take.new.self
-    c.list_reached.new.mux c.list_reached.new.numbers.items c.list_reached.new.ends c.args.server
+    c.list_reached.new.mux c.list_reached.new.numbers c.list_reached.new.ends c.args.server
     c.args.due c.take.result
     (Ok (Some c.in-Ok-Some.delivery)) c.self.view_is (search rules) c.take.ensures.read
     c.list_reached.ensures.ends
@@ -69,7 +69,7 @@ returns-in-Ok-None-clause-taken g c =
     taken_by (g.T.Talking.awaited, g.T.Talking.talk, g.L.Port.port)
     (λ guest. g.T.Talking.asks_for guest.talk)
     (λ guest. g.T.Talking.waits_for guest.talk) _ c.args.self.now c.take.new.self c.take.new.self
-    c.self.inside.touched.items c.self.inside.ends c.args.server c.args.due c.take.result (Ok None)
+    c.self.inside.touched c.self.inside.ends c.args.server c.args.due c.take.result (Ok None)
     c.self.view_is
     (search rules) c.take.ensures.read (refl, refl)
 
@@ -78,7 +78,7 @@ returns-in-Err-clause-taken g c =
     taken_by (g.T.Talking.awaited, g.T.Talking.talk, g.L.Port.port)
     (λ guest. g.T.Talking.asks_for guest.talk)
     (λ guest. g.T.Talking.waits_for guest.talk) _ c.args.self.now c.take.new.self c.take.new.self
-    c.self.inside.touched.items c.self.inside.ends c.args.server c.args.due c.take.result _
+    c.self.inside.touched c.self.inside.ends c.args.server c.args.due c.take.result _
     c.self.view_is
     c.in-Err.is c.take.ensures.read (refl, refl)
 
