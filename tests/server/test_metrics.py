@@ -1,5 +1,6 @@
 """The metrics over HTTP: what they say of requests, servers, clients and the process, and clients that misuse them."""
 import http.client
+import re
 import shutil
 import socket
 import subprocess
@@ -7,7 +8,7 @@ import threading
 import time
 import unittest
 
-from parts import MODE, ServerTest, configuration, only_in, serve_words
+from parts import MODE, PROGRAM, ServerTest, configuration, only_in, serve_words
 from ports import HOST, free_port, wait_until
 from talk import fnv1a
 
@@ -244,6 +245,15 @@ class Metrics(ServerTest):
             resident = proxy.status("VmRSS") * 1024
             self.assertTrue(0.5 * resident < numbers["process_resident_memory_bytes"] < 2 * resident, (numbers, resident))
 
+    def test_the_build_is_the_one_that_version_prints(self):
+        proxy, port = self.metered(configuration(only=[self.memcached()]), threads=1)
+        printed = subprocess.run([PROGRAM, "--version"], stdout=subprocess.PIPE, timeout=10, check=True).stdout.decode()
+        version, sources = re.fullmatch(r"tkoproxy (\S+)\nsources ([0-9a-f]{64}), .*\n", printed).groups()
+        lines = [line for line in ask(port)[2].splitlines() if "tkoproxy_build_info" in line]
+        self.assertEqual([line.split()[:4] for line in lines[:2]], [
+            ["#", "HELP", "tkoproxy_build_info", "1,"], ["#", "TYPE", "tkoproxy_build_info", "gauge"]])
+        self.assertEqual(lines[2:], [f'tkoproxy_build_info{{version="{version}",sources="{sources}"}} 1'])
+
     def test_other_paths_and_methods(self):
         _, port = self.metered(configuration(only=[self.memcached()]), threads=1)
         for path in ("/", "/metrics/", "/metric", "/stats"):
@@ -323,7 +333,7 @@ class Metrics(ServerTest):
             deaf.connect((HOST, port))
             deaf.sendall(b"GET /metrics HTTP/1.1\r\nhost: x\r\n\r\n" * 100)
             of_workers = len(LOADS) if MODE == "events" else 0
-            self.assertEqual(len(numbers_in(ask(port, seconds=30)[2])), 13 + 3 + 199 * 4 + 1 + of_workers)
+            self.assertEqual(len(numbers_in(ask(port, seconds=30)[2])), 14 + 3 + 199 * 4 + 1 + of_workers)
 
     def test_it_ends_beside_a_client_that_stays(self):
         proxy, port = self.metered(configuration(only=[self.memcached()]), threads=1, connections=1)

@@ -10,7 +10,7 @@ use std::io;
 use std::net::{SocketAddr, TcpListener};
 use tko_commands::{Fault, ListenFault};
 use tko_io::IoRuntime;
-use tko_metrics::Process;
+use tko_metrics::{Build, Process};
 use tko_options::{Mode, ServeOptions};
 use tko_server::{Logging, Metering};
 
@@ -25,11 +25,12 @@ pub(crate) struct Prepared {
     pub metering: Option<Metering>,
 }
 
-/// This server, with a listener for its clients, and with the event log and the metrics that the
-/// options ask for.
+/// This server of this build, with a listener for its clients, and with the event log and the
+/// metrics that the options ask for.
 pub(crate) fn prepare<R: IoRuntime<Listener = TcpListener> + Files<File = File>>(
     rt: &R,
     alloc: Global,
+    build: Build,
     options: &ServeOptions,
     server: tko_server::Options,
 ) -> Result<Prepared, Fault>
@@ -39,7 +40,7 @@ pub(crate) fn prepare<R: IoRuntime<Listener = TcpListener> + Files<File = File>>
 {
     let (listener, address) = listener_of(rt, alloc, options.listen.as_str())?;
     let logging = logging_of(rt, alloc, options, address, &server)?;
-    let metering = metering_of(rt, alloc, options, &server)?;
+    let metering = metering_of(rt, alloc, build, options, &server)?;
     Ok(Prepared {
         mode: options.mode,
         server,
@@ -108,10 +109,11 @@ pub(crate) fn logging_of<R: IoRuntime>(
     Ok(Some(logging))
 }
 
-/// The metrics of this server that the options ask for, if they do.
+/// The metrics of this server of this build that the options ask for, if they do.
 fn metering_of<R: IoRuntime<Listener = TcpListener> + Files<File = File>>(
     rt: &R,
     alloc: Global,
+    build: Build,
     options: &ServeOptions,
     server: &tko_server::Options,
 ) -> Result<Option<Metering>, Fault>
@@ -123,20 +125,21 @@ fn metering_of<R: IoRuntime<Listener = TcpListener> + Files<File = File>>(
         return Ok(None);
     };
     match bound(rt, alloc, address.as_str())? {
-        Ok((listener, _)) => Ok(Some(metering_at(rt, alloc, listener, server)?)),
+        Ok((listener, _)) => Ok(Some(metering_at(rt, alloc, build, listener, server)?)),
         Err(words) => Err(Fault::Metrics(ListenFault::System(words))),
     }
 }
 
-/// The metrics of this server, which this listener answers for.
+/// The metrics of this server of this build, which this listener answers for.
 fn metering_at<R: IoRuntime<Listener = TcpListener> + Files<File = File>>(
     rt: &R,
     alloc: Global,
+    build: Build,
     listener: TcpListener,
     server: &tko_server::Options,
 ) -> Result<Metering, AllocError>
     ensures { IfOk result (IsMeterOf server.now) }
 {
-    let process = Process::open(rt, server.open_files);
+    let process = Process::open(rt, build, server.open_files);
     Metering::start(alloc, listener, server, process)
 }

@@ -15,7 +15,8 @@ use tko_commands::{
     refuse_settings, run_check, run_dry, run_replay, status_of, write_text,
 };
 use tko_io::{Inlet, IoRuntime, Outlet};
-use tko_options::{Asked, Refusal, ServeOptions};
+use tko_metrics::Build;
+use tko_options::{Asked, Refusal, ServeOptions, VERSION};
 use tko_reach::run_connected;
 
 const REFUSED: u8 = 2;
@@ -23,7 +24,8 @@ const REFUSED: u8 = 2;
 /// Runs the command that the words name, of which the first is the program's name, and returns the
 /// status: 0 where it was done, 1 after a fault, 2 where the words were refused, 3 where a server
 /// did not give its version to `check --connect`. Replies and runs go to `output`, and the line of
-/// a fault to `faults`.
+/// a fault to `faults`. `sources` is the hash of the sources that the program was built from, which
+/// the metrics of `serve` name beside its version.
 pub fn command<
     R: IoRuntime<Listener = TcpListener>
         + Threads
@@ -36,7 +38,15 @@ pub fn command<
     I: Inlet,
     O: Outlet,
     F: Outlet,
->(rt: &R, alloc: Global, words: &[String], input: &mut I, output: &mut O, faults: &mut F) -> u8
+>(
+    rt: &R,
+    alloc: Global,
+    sources: &'static str,
+    words: &[String],
+    input: &mut I,
+    output: &mut O,
+    faults: &mut F,
+) -> u8
     ensures status { result ≤ 3 }
     ensures done { result ≡ 0 → IsCommandDone I.Inlet O.Outlet F.Outlet (map string_bytes words.now)
         (ends input.old output.old faults.old) (ends input.new output.new faults.new) }
@@ -50,7 +60,13 @@ pub fn command<
     match Asked::read(alloc, words) {
         Ok(Asked::Dry(options)) => run_dry(rt, alloc, options, input, output, faults),
         Ok(Asked::Replay) => run_replay(rt, alloc, input, output, faults),
-        Ok(Asked::Serve(options)) => run_server(rt, alloc, options, output, faults),
+        Ok(Asked::Serve(options)) => {
+            let build = Build {
+                version: VERSION,
+                sources,
+            };
+            run_server(rt, alloc, build, options, output, faults)
+        }
         Ok(Asked::Demo(options)) => run_demo(rt, alloc, options, input, output, faults),
         Ok(Asked::Check(options)) if options.connect => {
             run_connected(rt, alloc, options, input, output, faults)
@@ -65,7 +81,7 @@ pub fn command<
     }
 }
 
-/// Serves clients, and returns the status.
+/// Serves clients by this build, and returns the status.
 fn run_server<
     R: IoRuntime<Listener = TcpListener>
         + Threads
@@ -77,7 +93,7 @@ fn run_server<
         + Eprint,
     O: Outlet,
     F: Outlet,
->(rt: &R, alloc: Global, options: ServeOptions, output: &mut O, faults: &mut F) -> u8
+>(rt: &R, alloc: Global, build: Build, options: ServeOptions, output: &mut O, faults: &mut F) -> u8
     ensures status { result ≤ 1 }
     ensures done { result ≡ 0 → HasServedFor O.Outlet F.Outlet options
         (output.old, faults.old) (output.new, faults.new) }
@@ -87,7 +103,7 @@ fn run_server<
         output.old output.new faults.old faults.new }
 {
     match loaded_server(rt, alloc, options, faults) {
-        Ok(options) => serve_loaded(rt, alloc, &options, output, faults),
+        Ok(options) => serve_loaded(rt, alloc, build, &options, output, faults),
         Err(fault) => fail(rt, alloc, faults, fault),
     }
 }
@@ -104,7 +120,7 @@ fn serve_loaded<
         + Eprint,
     O: Outlet,
     F: Outlet,
->(rt: &R, alloc: Global, options: &ServeOptions, output: &mut O, faults: &mut F) -> u8
+>(rt: &R, alloc: Global, build: Build, options: &ServeOptions, output: &mut O, faults: &mut F) -> u8
     ensures status { result ≤ 1 }
     ensures done { result ≡ 0 → HasServedOrChecked O.takes options.now output.old output.new }
     ensures noted { result ≡ 0 → HasServerNotes F.takes F.failures options.now
@@ -114,7 +130,7 @@ fn serve_loaded<
         (ServeFails O.takes O.failures options.now output.old output.new)
         output.old output.new faults.old faults.new }
 {
-    match serve(rt, alloc, options, output, faults) {
+    match serve(rt, alloc, build, options, output, faults) {
         Ok(()) => DONE,
         Err(Fault::Config(cause)) => {
             refuse_config(rt, alloc, faults, options.config.as_str(), cause)

@@ -21,14 +21,16 @@ use std::thread::Threads;
 use tko_commands::{Fault, write_text};
 use tko_desk::Totals;
 use tko_io::{IoRuntime, Outlet};
+use tko_metrics::Build;
 use tko_options::{Mode, ServeOptions};
 use tko_server::{Announce, Ended, ServerRun, ServerRunFault, WorkerKind, WorkerReport, run_all};
 
 /// Serves clients over TCP until the last of the connections has ended, and then prints the totals.
-/// `ready` is printed once clients can connect: when each worker has asked for its first one.
-/// Before it listens come the warnings on the configuration and on the addresses of the options,
-/// before `ready` a notice of what the server does with its descriptors, and before the totals
-/// notices say what the workers met. With `--check` it ends before it listens, and prints `valid`.
+/// The metrics name this build. `ready` is printed once clients can connect: when each worker has
+/// asked for its first one. Before it listens come the warnings on the configuration and on the
+/// addresses of the options, before `ready` a notice of what the server does with its descriptors,
+/// and before the totals notices say what the workers met. With `--check` it ends before it
+/// listens, and prints `valid`.
 pub(crate) fn serve<
     R: IoRuntime<Listener = TcpListener>
         + Threads
@@ -43,6 +45,7 @@ pub(crate) fn serve<
 >(
     rt: &R,
     alloc: Global,
+    build: Build,
     options: &ServeOptions,
     output: &mut O,
     faults: &mut F,
@@ -61,7 +64,7 @@ pub(crate) fn serve<
     if options.only_check {
         return print_valid(rt, output);
     }
-    run_named(rt, alloc, options, server, output, faults)
+    run_named(rt, alloc, build, options, server, output, faults)
 }
 
 /// Writes what is warned of in the configuration and in the addresses of the options.
@@ -92,6 +95,7 @@ fn run_named<
 >(
     rt: &R,
     alloc: Global,
+    build: Build,
     options: &ServeOptions,
     server: tko_server::Options,
     output: &mut O,
@@ -103,7 +107,7 @@ fn run_named<
         (RunFails O.takes O.failures options.now output.old output.new) }
     ensures noted { HasNotices F.takes F.failures faults.old faults.new }
 {
-    let prepared = prepare(rt, alloc, options, server)?;
+    let prepared = prepare(rt, alloc, build, options, server)?;
     note_memory(rt, alloc, faults);
     run_prepared(rt, alloc, prepared, output, faults)
 }

@@ -1,5 +1,5 @@
 -- The workers of a page, by their numbers.
-use Rattle.std.proofs.Common.{◌≡◌, ℕ, List, [], ◌∷◌, ◌+◌, ◌++◌, map, refl, sym, ap, ◌∙◌, arith, Bor, Option, Some, None, length}
+use Rattle.std.proofs.Common.{◌≡◌, ℕ, List, [], ◌∷◌, ◌+◌, ◌++◌, refl, sym, ap, ◌∙◌, arith, Bor, Option, Some, None, length}
 use Rattle.std.specs.Option.{option_copied, unwrap_or}
 use Rattle.std.specs.List.{range_with_len}
 use Rattle.std.proofs.lemmas.List.{map-append, map-id}

@@ -38,6 +38,7 @@ name_of metric.MarkedSince = codes "tkoproxy_server_marked_timestamp_seconds"
 name_of metric.WorkerClients = codes "tkoproxy_worker_clients"
 name_of metric.WorkerConnections = codes "tkoproxy_worker_connections"
 name_of metric.WorkerWaiting = codes "tkoproxy_worker_waiting_bytes"
+name_of metric.Build = codes "tkoproxy_build_info"
 name_of metric.Descriptors = codes "process_open_fds"
 name_of metric.DescriptorLimit = codes "process_max_fds"
 name_of metric.Memory = codes "process_resident_memory_bytes"
@@ -65,6 +66,8 @@ help_of metric.WorkerConnections =
     codes "Connections of this event-driven worker to servers, made or being made."
 help_of metric.WorkerWaiting = codes
     "Bytes of replies that this event-driven worker holds for its clients, whole or under way."
+help_of metric.Build =
+    codes "1, with the version of the program and the SHA-256 of its sources as labels."
 help_of metric.Descriptors = codes "Open file descriptors."
 help_of metric.DescriptorLimit =
     codes "How many file descriptors the process could have open at its start."
@@ -89,6 +92,7 @@ metric_kind metric.MarkedSince = Gauge
 metric_kind metric.WorkerClients = Gauge
 metric_kind metric.WorkerConnections = Gauge
 metric_kind metric.WorkerWaiting = Gauge
+metric_kind metric.Build = Gauge
 metric_kind metric.Descriptors = Gauge
 metric_kind metric.DescriptorLimit = Gauge
 metric_kind metric.Memory = Gauge

@@ -1,6 +1,7 @@
 -- The page of a server's metrics.
 use Rattle.std.specs.Prelude.{◌≡◌, ℕ, List, [], ◌++◌, Option, Some, None, codes, flat_map, map, option_map, sum_by}
 use Rattle.tko_bytes.specs.Numbers.{capped}
+use Rattle.tko_metrics.specs.declared.build.Build.{Build}
 use Rattle.tko_metrics.specs.declared.metrics.Metric.{Metric}
 use Rattle.tko_metrics.specs.declared.metrics.Metric.TheVariants as metric
 use Rattle.tko_metrics.specs.declared.page.Page.{Page}
@@ -10,7 +11,7 @@ use Rattle.tko_metrics.specs.declared.worker_meter.Ending.TheVariants as ending
 use Rattle.tko_metrics.specs.declared.worker_meter.Marking.{Marking}
 use Rattle.tko_metrics.specs.declared.worker_meter.Marking.TheVariants.{Up, Soft, Hard}
 use Rattle.tko_metrics.specs.Loads.{AreWorkersIf, known_loads}
-use Rattle.tko_metrics.specs.Samples.{head_of, kind_sample, mark_sample, moment_sample, server_sample, single}
+use Rattle.tko_metrics.specs.Samples.{build_sample, head_of, kind_sample, mark_sample, moment_sample, server_sample, single}
 
 -- the clients, and the sessions that have ended
 unfoldable pub clients_text : Page → List ℕ
@@ -102,10 +103,14 @@ abbrev pub known_text : Metric → Option ℕ → List ℕ
 known_text metric (Some number) = single metric number
 known_text metric None = []
 
--- what the system says of the process
+-- which build the process runs
+unfoldable pub build_text : Build → List ℕ
+build_text build = head_of metric.Build ++ build_sample metric.Build build
+
+-- the build that the process runs, and what the system says of the process
 unfoldable pub process_text : Page → List ℕ
 process_text page =
-    known_text metric.Descriptors page.descriptors
+    build_text page.build ++ known_text metric.Descriptors page.descriptors
     ++ known_text metric.DescriptorLimit page.descriptor_limit
     ++ known_text metric.Memory page.memory
 
@@ -113,10 +118,12 @@ abbrev pub page_text : Page → List ℕ
 page_text page =
     counts_text page ++ servers_text page ++ workers_text page ++ process_text page
 
--- the text is a page of some numbers, over servers of these addresses; where it shows workers, it
--- shows each of so many
-pub record IsPage (addresses : List (List ℕ)) (count : ℕ) (text : List ℕ) : Type 0 where
-  pub page : Page
-  pub servers : map (λ server. server.address.now) page.servers.items ≡ addresses
-  pub workers : AreWorkersIf count (option_map (λ workers. workers.items) page.workers)
-  pub text_is : text ≡ page_text page
+-- the text is a page of some numbers, over servers of these addresses, in a process of this build;
+-- where it shows workers, it shows each of so many
+pub record IsPage (addresses : List (List ℕ)) (run : Build) (count : ℕ) (text : List ℕ) : Type 0
+  where
+    pub page : Page
+    pub of_build : page.build ≡ run
+    pub servers : map (λ server. server.address.now) page.servers.items ≡ addresses
+    pub workers : AreWorkersIf count (option_map (λ workers. workers.items) page.workers)
+    pub text_is : text ≡ page_text page

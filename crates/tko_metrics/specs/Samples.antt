@@ -1,5 +1,6 @@
 -- The text format of Prometheus.
 use Rattle.std.specs.Prelude.{ℕ, ◌==◌, ◌||◌, ◌/◌, ◌%◌, if◌then◌else◌, List, [], ◌∷◌, ◌++◌, codes, decimal, flat_map}
+use Rattle.tko_metrics.specs.declared.build.Build.{Build}
 use Rattle.tko_metrics.specs.declared.metrics.Metric.{Metric}
 use Rattle.tko_metrics.specs.declared.worker_meter.Ending.{Ending}
 use Rattle.tko_metrics.specs.Metrics.{ending_word, help_of, metric_kind, metric_kind_word, name_of}
@@ -41,10 +42,20 @@ abbrev pub escaped_byte : ℕ → List ℕ
 escaped_byte byte =
     if byte == quote || byte == backslash then backslash ∷ byte ∷ [] else byte ∷ []
 
+-- a text between the quotes of a label
+abbrev pub label_text : List ℕ → List ℕ
+label_text text = flat_map escaped_byte text
+
+-- the sample of a build, which is always 1
+unfoldable pub build_sample : Metric → Build → List ℕ
+build_sample metric build =
+    (name_of metric ++ codes "{version=\"") ++ label_text build.version.now
+    ++ codes "\",sources=\"" ++ label_text build.sources.now ++ codes "\"} 1\n"
+
 -- a sample of the server of this address, up to the end of the address
 unfoldable pub sample_front : Metric → List ℕ → List ℕ
 sample_front metric address =
-    (name_of metric ++ codes "{server=\"") ++ flat_map escaped_byte address ++ codes "\""
+    (name_of metric ++ codes "{server=\"") ++ label_text address ++ codes "\""
 
 -- a sample of a server
 unfoldable pub server_sample : Metric → List ℕ → ℕ → List ℕ

@@ -5,9 +5,11 @@
 //!   off keeps nothing. `WorkerMeter` is one worker's part of it, and `Meter::page` the page.
 //! - `Ending`: how a session ended; `Marking`: the mark that a worker set.
 //! - `WorkerLoad`: what an event-driven worker serves.
-//! - `Process`: what the system says of the process: its memory and its descriptors.
+//! - `Process`: the build that the process runs, and what the system says of it: its memory and its
+//!   descriptors. `Build`: a build of the program.
 #![tactic(auto)]
 
+mod build;
 mod counter;
 mod load;
 mod meter;
@@ -19,6 +21,7 @@ mod sample;
 mod worker_meter;
 mod workers;
 
+pub use build::Build;
 pub use load::WorkerLoad;
 pub use meter::Meter;
 pub use process::Process;

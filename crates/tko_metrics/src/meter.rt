@@ -63,6 +63,7 @@ impl SharedMeter {
             ≡ map string_bytes addresses.now) }
         ensures workers { IfOk result (λ page. AreWorkersIf (length self.now.workers.items)
             (option_map (λ workers. workers.items) page.workers)) }
+        ensures build { IfOk result (λ page. page.build ≡ process.now.build) }
     {
         Ok(Page {
             connected: self.connected.get(),
@@ -71,6 +72,7 @@ impl SharedMeter {
             sums: Sums::of(self),
             servers: Shown::all(alloc, self, addresses)?,
             workers: WorkerReading::all(alloc, self)?,
+            build: process.build,
             descriptors: process.descriptors(),
             descriptor_limit: process.limit,
             memory: process.memory(alloc),
@@ -170,16 +172,16 @@ impl Meter {
         }
     }
 
-    /// The page of the metrics at this moment, over servers of these addresses. That of a meter
-    /// that is off has counted nothing.
+    /// The page of the metrics at this moment, over servers of these addresses, in this process.
+    /// That of a meter that is off has counted nothing.
     pub fn page(
         &self,
         alloc: Global,
         addresses: &[String],
         process: &Process,
     ) -> Result<Vec<u8>, NoMemory>
-        ensures { IfOk result (λ text.
-            IsPage (map string_bytes addresses.now) (meter_parts self.now) text.items) }
+        ensures { IfOk result (λ text. IsPage (map string_bytes addresses.now) process.now.build
+            (meter_parts self.now) text.items) }
     {
         let nothing = SharedMeter::of(Vec::new(alloc));
         let shared = self.shared().unwrap_or(&nothing);

@@ -30,6 +30,7 @@ pub(crate) enum Metric {
     WorkerClients,
     WorkerConnections,
     WorkerWaiting,
+    Build,
     Descriptors,
     DescriptorLimit,
     Memory,
@@ -57,6 +58,9 @@ const CONNECTIONS: &str = "Connections of this event-driven worker to servers, m
 const WAITING: &str =
     "Bytes of replies that this event-driven worker holds for its clients, whole or under way.";
 
+/// The help text of `Metric::Build`.
+const BUILD: &str = "1, with the version of the program and the SHA-256 of its sources as labels.";
+
 impl Metric {
     pub(crate) fn name(self) -> &'static str
         ensures { result.now ≡ name_of self }
@@ -80,6 +84,7 @@ impl Metric {
             Metric::WorkerClients => "tkoproxy_worker_clients",
             Metric::WorkerConnections => "tkoproxy_worker_connections",
             Metric::WorkerWaiting => "tkoproxy_worker_waiting_bytes",
+            Metric::Build => "tkoproxy_build_info",
             Metric::Descriptors => "process_open_fds",
             Metric::DescriptorLimit => "process_max_fds",
             Metric::Memory => "process_resident_memory_bytes",
@@ -111,6 +116,7 @@ impl Metric {
             Metric::WorkerClients => "Clients that this event-driven worker serves.",
             Metric::WorkerConnections => CONNECTIONS,
             Metric::WorkerWaiting => WAITING,
+            Metric::Build => BUILD,
             Metric::Descriptors => "Open file descriptors.",
             Metric::DescriptorLimit => {
                 "How many file descriptors the process could have open at its start."
@@ -141,6 +147,7 @@ impl Metric {
             Metric::WorkerClients => MetricKind::Gauge,
             Metric::WorkerConnections => MetricKind::Gauge,
             Metric::WorkerWaiting => MetricKind::Gauge,
+            Metric::Build => MetricKind::Gauge,
             Metric::Descriptors => MetricKind::Gauge,
             Metric::DescriptorLimit => MetricKind::Gauge,
             Metric::Memory => MetricKind::Gauge,

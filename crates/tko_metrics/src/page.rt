@@ -1,10 +1,13 @@
 //! The page of a server's metrics.
 ghost use Rattle.std.specs.Prelude.{◌≡◌, ◌++◌, IfOk, OnOk};
-ghost use Rattle.tko_metrics.specs.Pages.{clients_text, counts_text, faults_text, hard_flag, known_text, mark_moment_of, mark_samples, marks_text, moments_text, page_text, probes_in_all, probes_text, process_text, requests_text, sends_text, servers_text, soft_flag, workers_text};
+ghost use Rattle.tko_metrics.specs.Pages.{build_text, clients_text, counts_text, faults_text, hard_flag, known_text, mark_moment_of, mark_samples, marks_text, moments_text, page_text, probes_in_all, probes_text, process_text, requests_text, sends_text, servers_text, soft_flag, workers_text};
 
+use crate::build::Build;
 use crate::metrics::Metric;
 use crate::reading::{Shown, Sums};
-use crate::sample::{add_of_kind, add_of_mark, add_of_moment, add_of_server, add_single, begin};
+use crate::sample::{
+    add_of_build, add_of_kind, add_of_mark, add_of_moment, add_of_server, add_single, begin,
+};
 use crate::worker_meter::{Ending, Marking};
 use crate::workers::{WorkerReading, add_loads};
 use std::alloc::Global;
@@ -20,6 +23,7 @@ pub(crate) struct Page<'a> {
     pub(crate) servers: Vec<Shown<'a>>,
     /// The workers, if they are event-driven.
     pub(crate) workers: Option<Vec<WorkerReading>>,
+    pub(crate) build: Build,
     pub(crate) descriptors: Option<u64>,
     pub(crate) descriptor_limit: Option<u64>,
     pub(crate) memory: Option<u64>,
@@ -81,6 +85,7 @@ impl Page<'_> {
     fn add_process(&self, out: &mut Vec<u8>) -> Result<(), NoMemory>
         ensures { OnOk result (out.new.items ≡ out.old.items ++ process_text self.now) }
     {
+        add_build(out, self.build)?;
         add_known(out, Metric::Descriptors, self.descriptors)?;
         add_known(out, Metric::DescriptorLimit, self.descriptor_limit)?;
         add_known(out, Metric::Memory, self.memory)
@@ -227,6 +232,15 @@ fn add_moment_of(out: &mut Vec<u8>, server: Shown<'_>) -> Result<(), NoMemory>
             add_of_moment(out, Metric::MarkedSince, address, reading.since)
         }
     }
+}
+
+/// Appends which build the process runs.
+#[tactic(auto, unfolding(crate::specs::Pages::build_text))]
+fn add_build(out: &mut Vec<u8>, build: Build) -> Result<(), NoMemory>
+    ensures { OnOk result (out.new.items ≡ out.old.items ++ build_text build) }
+{
+    begin(out, Metric::Build)?;
+    add_of_build(out, Metric::Build, build)
 }
 
 /// Appends a metric whose number the system may not tell.

@@ -1,8 +1,9 @@
-//! What the system says of the process.
+//! The process: which build it runs, and what the system says of it.
 ghost use Rattle.std.specs.Prelude.{◌≡◌};
 ghost use Rattle.std.specs.List.{count_by};
 ghost use Rattle.tko_metrics.specs.Marks.{ends_name};
 
+use crate::build::Build;
 use std::alloc::Global;
 use std::fs::{File, Files};
 use std::io::{Read, Seek};
@@ -30,10 +31,11 @@ const LIST_PIECE_BYTES: usize = 4096;
 /// How many pieces a list has at most.
 const MAX_LIST_PIECES: usize = 100_000;
 
-/// What the system says of the process. Its files are opened once, so that reading them takes no
-/// runtime.
+/// The build that the process runs, and what the system says of the process. Its files are opened
+/// once, so that reading them takes no runtime.
 #[derive(Drop)]
 pub struct Process {
+    pub build: Build,
     status: Option<File>,
     descriptors: Option<File>,
     /// How many descriptors it may have open, where that is known.
@@ -41,9 +43,12 @@ pub struct Process {
 }
 
 impl Process {
-    /// This process, which may have so many descriptors open.
-    pub fn open<R: Files<File = File>>(rt: &R, limit: Option<u64>) -> Process {
+    /// This process, which runs this build and may have so many descriptors open.
+    pub fn open<R: Files<File = File>>(rt: &R, build: Build, limit: Option<u64>) -> Process
+        ensures { result.build ≡ build }
+    {
         Process {
+            build,
             status: File::open(rt, STATUS).ok(),
             descriptors: File::open(rt, DESCRIPTORS).ok(),
             limit,

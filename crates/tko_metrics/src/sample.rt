@@ -1,7 +1,8 @@
 //! The text format of Prometheus.
 ghost use Rattle.std.specs.Prelude.{◌≡◌, ◌++◌, OnOk, decimal};
-ghost use Rattle.tko_metrics.specs.Samples.{escaped_byte, head_of, kind_sample, mark_sample, moment_sample, sample_front, seconds_text, server_sample, single, three_digits, worker_sample};
+ghost use Rattle.tko_metrics.specs.Samples.{build_sample, escaped_byte, head_of, kind_sample, label_text, mark_sample, moment_sample, sample_front, seconds_text, server_sample, single, three_digits, worker_sample};
 
+use crate::build::Build;
 use crate::metrics::Metric;
 use crate::worker_meter::Ending;
 use itoa::Buffer;
@@ -72,6 +73,18 @@ pub(crate) fn add_of_worker(
     append(out, &[b"\"} "])?;
     add_digits(out, number)?;
     append(out, &[b"\n"])
+}
+
+/// Appends the sample of a build.
+#[tactic(auto, unfolding(crate::specs::Samples::build_sample))]
+pub(crate) fn add_of_build(out: &mut Vec<u8>, metric: Metric, build: Build) -> Result<(), NoMemory>
+    ensures { OnOk result (out.new.items ≡ out.old.items ++ build_sample metric build) }
+{
+    append(out, &[metric.name().as_bytes(), b"{version=\""])?;
+    add_label_text(out, build.version)?;
+    append(out, &[b"\",sources=\""])?;
+    add_label_text(out, build.sources)?;
+    append(out, &[b"\"} 1\n"])
 }
 
 /// Appends a sample of a server.
@@ -159,13 +172,21 @@ fn begin_sample(out: &mut Vec<u8>, metric: Metric, address: &str) -> Result<(), 
         (out.new.items ≡ out.old.items ++ sample_front metric address.now) }
 {
     append(out, &[metric.name().as_bytes(), b"{server=\""])?;
-    for byte in address.as_bytes() {
-        add_escaped(out, *byte)?;
-    }
+    add_label_text(out, address)?;
     append(out, &[b"\""])
 }
 
-/// Appends a byte of a value that stands between the quotes of a label. No address has an LF.
+/// Appends the value of a label, which stands between quotes.
+fn add_label_text(out: &mut Vec<u8>, text: &str) -> Result<(), NoMemory>
+    ensures { OnOk result (out.new.items ≡ out.old.items ++ label_text text.now) }
+{
+    for byte in text.as_bytes() {
+        add_escaped(out, *byte)?;
+    }
+    Ok(())
+}
+
+/// Appends a byte of the value of a label. No address, version or hash has an LF.
 fn add_escaped(out: &mut Vec<u8>, byte: u8) -> Result<(), NoMemory>
     ensures { OnOk result (out.new.items ≡ out.old.items ++ escaped_byte byte) }
 {

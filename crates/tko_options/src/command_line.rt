@@ -18,7 +18,7 @@ const DEFAULT_LIMIT: &str = "40";
 const DEFAULT_TRIES: &str = "8";
 
 /// The version of the program, as CHANGELOG.md has it.
-const VERSION: &str = "1.1.0";
+pub const VERSION: &str = "1.1.0";
 
 const PROGRAM_HELP: &str = "\
 Exit status:

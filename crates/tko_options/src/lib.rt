@@ -5,6 +5,7 @@
 //! - `Mode`: how a server serves its clients.
 //! - `DryOptions`, `ServeOptions`, `CheckOptions`, `DemoOptions`: the options of the commands, a
 //!   field for each.
+//! - `VERSION`: that of the program.
 #![tactic(auto)]
 
 mod asked;
@@ -25,6 +26,7 @@ mod serve_options;
 
 pub use asked::Asked;
 pub use check_options::CheckOptions;
+pub use command_line::VERSION;
 pub use demo_options::DemoOptions;
 pub use dry_options::DryOptions;
 pub use mode::Mode;

@@ -8,6 +8,7 @@ use Rattle.http_server.specs.declared.response.Response.{Response}
 use Rattle.http_server.specs.Exchange.{Call}
 use Rattle.http_server.specs.Response.{fields_of}
 use Rattle.http_uri.specs.Uri.{uri_path}
+use Rattle.tko_metrics.specs.declared.build.Build.{Build}
 use Rattle.tko_metrics.specs.Pages.{IsPage}
 use Rattle.tko_scrapes.specs.declared.answer.Answer.{Answer}
 use Rattle.tko_scrapes.specs.declared.answer.Answer.TheVariants.{Page, NotAllowed, NotFound}
@@ -49,12 +50,13 @@ fields_for Page = close_field ∷ type_field ∷ []
 fields_for NotAllowed = close_field ∷ allow_field ∷ []
 fields_for NotFound = close_field ∷ []
 
--- a page of these addresses and of some workers was put behind what the body had
-pub record HasPage (addresses : List (List ℕ)) (before after : List ℕ) : Type 0 where
-  pub page : List ℕ
-  pub workers : ℕ
-  pub is_page : IsPage addresses workers page
-  pub body : after ≡ before ++ page
+-- a page of these addresses, of this build and of some workers was put behind what the body had
+pub record HasPage (addresses : List (List ℕ)) (run : Build) (before after : List ℕ) : Type 0
+  where
+    pub page : List ℕ
+    pub workers : ℕ
+    pub is_page : IsPage addresses run workers page
+    pub body : after ≡ before ++ page
 
 -- the response is this answer; nothing but a page has a body
 pub record IsPageAnswer (answer : Answer) (response : Response) : Type 0 where
@@ -74,9 +76,10 @@ AnswersScrape request response = IsPageAnswer (page_answer request) response
 abbrev pub IsScrapeAnswered : Call → Type 0
 IsScrapeAnswered call = AnswersScrape call.0 call.1
 
--- the response is the answer to the request, and the page is one of servers of these addresses
-pub record ShowsPage (addresses : List (List ℕ)) (request : Request (List ℕ))
+-- the response is the answer to the request, and the page is one of servers of these addresses and
+-- of this build
+pub record ShowsPage (addresses : List (List ℕ)) (run : Build) (request : Request (List ℕ))
     (response : Response) : Type 0
   where
     pub answer : AnswersScrape request response
-    pub page : page_answer request ≡ Page → HasPage addresses [] response.body.items
+    pub page : page_answer request ≡ Page → HasPage addresses run [] response.body.items

@@ -24,7 +24,7 @@ impl Service for Pages<'_> {
     ghost use Rattle.tko_scrapes.specs.Pages.{ShowsPage};
 
     ghost answers = { λ old request response new.
-        ShowsPage (map string_bytes old.addresses.now) request response };
+        ShowsPage (map string_bytes old.addresses.now) old.process.now.build request response };
 
     fn call(
         &mut self,
@@ -49,7 +49,7 @@ impl Pages<'_> {
             ≡ fields_of response.old ++ type_field ∷ []) }
         ensures status { response.new.status ≡ response.old.status }
         ensures body { OnOk result (HasPage (map string_bytes self.now.addresses.now)
-            response.old.body.items response.new.body.items) }
+            self.now.process.now.build response.old.body.items response.new.body.items) }
     {
         add_type(response)?;
         let Ok(text) = self.meter.page(self.alloc, self.addresses, self.process) else {

@@ -3,7 +3,7 @@
 
 mod build;
 
-use build::BUILD;
+use build::{BUILD, SOURCES};
 use std::alloc::Global;
 use std::fs::{File, Files};
 use std::io::{Read, Write};
@@ -65,7 +65,15 @@ fn run<
     let mut input = Piped::new(input);
     let mut output = Piped::new(output);
     let mut faults = Piped::new(faults);
-    command(rt, alloc, words, &mut input, &mut output, &mut faults)
+    command(
+        rt,
+        alloc,
+        SOURCES,
+        words,
+        &mut input,
+        &mut output,
+        &mut faults,
+    )
 }
 
 /// Reports why the words could not be read, and returns the status: one is not UTF-8, or memory ran

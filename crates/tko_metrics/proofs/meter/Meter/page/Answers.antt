@@ -13,6 +13,7 @@ returns c =
     IfOk-weaker c.text.result _ _
     (λ text is. record {
       page = c.in_ok-reading.field-0;
+      of_build = c.in_ok-reading.ensures.build;
       servers = c.in_ok-reading.ensures.servers;
       workers = subst (λ count. AreWorkersIf count
           (option_map (λ workers. workers.items) c.in_ok-reading.field-0.workers)) parts

@@ -1,4 +1,3 @@
-use Rattle.std.specs.List.{range_with_len}
 use Rattle.tko_metrics.specs.Loads.{AreWorkers}
 use Rattle.tko_metrics.proofs.workers.WorkerReading.all.Given as goal
 

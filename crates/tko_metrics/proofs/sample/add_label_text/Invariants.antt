@@ -1,6 +1,6 @@
 use Rattle.std.proofs.Common.{◌≡◌, ◌++◌, drop, flat_map}
 use Rattle.tko_metrics.specs.Samples.{escaped_byte}
-use Rattle.tko_metrics.proofs.sample.begin_sample.Given as goal
+use Rattle.tko_metrics.proofs.sample.add_label_text.Given as goal
 
 abbrev pub invariant-loop-byte : goal.invariant-loop-byte
 invariant-loop-byte l =
