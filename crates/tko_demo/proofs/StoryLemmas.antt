@@ -1,5 +1,5 @@
 -- What `demo` shows, and why it ends before its end.
-use Rattle.std.proofs.Common.{◌≡◌, ◌<◌, ℕ, List, ◌++◌, Bool, Result, IfErr, Ok, Err, false, subst, true}
+use Rattle.std.proofs.Common.{◌≡◌, ◌<◌, ℕ, List, ◌++◌, subst}
 use Rattle.tko_io.specs.declared.io.Inlet.{Ghosts as InletGhosts}
 use Rattle.tko_io.specs.declared.io.Outlet.{Ghosts as OutletGhosts}
 use Rattle.tko_demo.proofs.PlayLemmas.{later_fails, shown_then}

@@ -1,11 +1,15 @@
 -- What is written for a fault.
-use Rattle.std.specs.Prelude.{◌<◌, ℕ, List, codes}
+use Rattle.std.specs.Prelude.{◌<◌, ℕ, List, ◌++◌, codes}
 use Rattle.tko_demo.specs.declared.fault.DemoFault.{DemoFault}
 use Rattle.tko_demo.specs.declared.fault.DemoFault.TheVariants as fault
 
+-- the address at which all of a demonstration listens
+abbrev pub demo_address : List ℕ
+demo_address = codes "127.0.0.1"
+
 -- the line of a fault
 abbrev pub demo_fault_line : DemoFault → List ℕ
-demo_fault_line fault.Port = codes "fault: demo: no port of 127.0.0.1\n"
+demo_fault_line fault.Port = codes "fault: demo: no port of " ++ demo_address ++ codes "\n"
 demo_fault_line fault.Thread = codes "fault: demo: no thread\n"
 demo_fault_line fault.Reply = codes "fault: demo: a reply is not the one that is due\n"
 demo_fault_line fault.Read = codes "fault: read\n"

@@ -2,6 +2,7 @@
 use Rattle.std.specs.Prelude.{◌<◌, ℕ, List, ◌++◌, codes, decimal}
 use Rattle.tko_io.specs.declared.io.Inlet.{Ghosts as InletGhosts}
 use Rattle.tko_io.specs.declared.io.Outlet.{Ghosts as OutletGhosts}
+use Rattle.tko_demo.specs.Faults.{demo_address}
 use Rattle.tko_demo.specs.Playing.{HasNotPlayed}
 use Rattle.tko_demo.specs.Scenes.{HasPlayedScene, scene_text}
 use Rattle.tko_demo.specs.declared.fault.DemoFault.{DemoFault}
@@ -51,8 +52,8 @@ StayFails reads writes old new reason = DisplayFails writes old.1 new.1 reason
 -- what is printed where it stays, of a proxy at this port
 abbrev pub stay_text : ℕ → List ℕ
 stay_text port =
-    codes "The proxy stays until standard input ends. In another terminal:\n  nc 127.0.0.1 "
-    ++ decimal port ++ codes "\n"
+    codes "The proxy stays until standard input ends. In another terminal:\n  nc "
+    ++ demo_address ++ codes " " ++ decimal port ++ codes "\n"
 
 -- it was written where the proxy is, and then the input was read to its end
 pub record StaysToEnd {I O : Type 0} (inlet : InletGhosts I) (takes : O → List ℕ → O → Type 0)

@@ -6,8 +6,11 @@ use Rattle.json.specs.Print.{quoted}
 use Rattle.serde_json.specs.Data.{Data, null, boolean, number, string, array, object}
 use Rattle.serde_json.specs.Find.{get}
 use Rattle.serde_json.specs.Read.{read}
+use Rattle.tko_model.specs.Limits.{max_limit, max_servers}
 use Rattle.tko_pools.specs.Addresses.{is_address}
 use Rattle.tko_pools.specs.Json.{Pool, child_name, pools_of, text_of_value}
+use Rattle.tko_pools.specs.RingServers.{max_weight}
+use Rattle.tko_pools.specs.Routes.{max_exptime}
 use Rattle.tko_pools.specs.declared.fault.ConfigFault.{ConfigFault}
 use Rattle.tko_pools.specs.declared.fault.ConfigFault.TheVariants as fault
 use Rattle.tko_pools.specs.declared.pool_key.PoolKey.{PoolKey}
@@ -60,7 +63,7 @@ object_text route =
     then codes "the route's type is not FailoverRoute"
     else if not (are_children (list_in (codes "children") route))
     then codes "the route's children are no list of one or more texts PoolRoute|<pool>"
-    else codes "the route's failover_exptime is no whole number from 0 to 2147483647"
+    else codes "the route's failover_exptime is no whole number from 0 to " ++ decimal max_exptime
 
 -- what is wrong with a route, if there is one
 abbrev pub route_text : Option Data → List ℕ
@@ -84,10 +87,18 @@ key_flaw key.UnhashedPrefix =
     codes " has an unhashed_prefix that is no text of 1 to 250 bytes, or a hash_tag beside it"
 key_flaw key.Weights =
     codes " has weights without ketama, or not a whole number of at least 1 for each server, "
-    ++ codes "together at most 16777216"
+    ++ codes "together at most " ++ decimal max_weight
 key_flaw key.Names =
     codes " has names with modula, or not 1 to 255 bytes of printable ASCII for each server, "
     ++ codes "all different (by default the name is the address)"
+
+-- what is wrong with a pool's own soft limit
+unfoldable pub soft_limit_flaw : List ℕ
+soft_limit_flaw = codes " has a soft_limit that is no whole number from 0 to " ++ decimal max_limit
+
+-- what is wrong with a route over too many servers
+unfoldable pub too_many_text : List ℕ
+too_many_text = codes "the route has more than " ++ decimal max_servers ++ codes " servers"
 
 -- what is wrong with this object, as a fault tells it
 abbrev pub flaw_text : Data → ConfigFault → List ℕ
@@ -98,14 +109,13 @@ flaw_text root (fault.EmptyPool name) =
 flaw_text root (fault.Address text) =
     root_place_text root ++ address_text (string_bytes text)
 flaw_text root (fault.SoftLimit name) =
-    codes "pool " ++ quoted (string_bytes name)
-    ++ codes " has a soft_limit that is no whole number from 0 to 256"
+    codes "pool " ++ quoted (string_bytes name) ++ soft_limit_flaw
 flaw_text root (fault.PoolKey at name) =
     codes "pool " ++ quoted (string_bytes name) ++ key_flaw at
 flaw_text root fault.Route = route_text (get (codes "route") root)
 flaw_text root (fault.NoSuchPool name) =
     codes "the route names pool " ++ quoted (string_bytes name) ++ codes ", which is not there"
-flaw_text root fault.TooManyServers = codes "the route has more than 256 servers"
+flaw_text root fault.TooManyServers = too_many_text
 flaw_text root fault.Memory = codes "memory ran out"
 
 -- a line of these words

@@ -2,7 +2,7 @@
 //! it.
 ghost use Rattle.std.specs.Prelude.{◌≡◌, ◌++◌, [], Some, IfOk, OnOk, option_map};
 ghost use Rattle.serde_json.specs.View.{items_view, members_view, view};
-ghost use Rattle.tko_explain.specs.Reasons.{IsReasonOf, address_text, are_children, bad_address_place, bad_address_text, flaw_text, is_child, key_flaw, is_failover_kind, object_text, place_or, reason_line, root_place_text, route_text};
+ghost use Rattle.tko_explain.specs.Reasons.{IsReasonOf, address_text, are_children, bad_address_place, bad_address_text, flaw_text, is_child, key_flaw, is_failover_kind, object_text, place_or, reason_line, root_place_text, route_text, soft_limit_flaw, too_many_text};
 ghost use Rattle.tko_pools.specs.Json.{pools_of, texts_of};
 
 use crate::parts::list_in;
@@ -65,7 +65,7 @@ fn flaw_words(alloc: Global, root: &Value, fault: &ConfigFault) -> Result<Vec<u8
             append_address(alloc, &mut out, text.as_str())?;
         }
         ConfigFault::SoftLimit(name) => {
-            let end = b" has a soft_limit that is no whole number from 0 to 256";
+            let end = soft_limit_flaw().as_bytes();
             append_around(alloc, &mut out, b"pool ", name.as_str(), b"", end)?;
         }
         ConfigFault::PoolKey(key, name) => {
@@ -77,16 +77,30 @@ fn flaw_words(alloc: Global, root: &Value, fault: &ConfigFault) -> Result<Vec<u8
             let (before, end) = (b"the route names pool ", b", which is not there");
             append_around(alloc, &mut out, before, name.as_str(), b"", end)?;
         }
-        ConfigFault::TooManyServers => {
-            out.extend_from_slice(b"the route has more than 256 servers")?;
-        }
+        ConfigFault::TooManyServers => out.extend_from_slice(too_many_servers().as_bytes())?,
         ConfigFault::Memory => out.extend_from_slice(b"memory ran out")?,
     }
     Ok(out)
 }
 
+/// What is wrong with a pool's own soft limit.
+#[tactic(auto, using(crate::proofs::ReasonLemmas::soft_limit_words))]
+fn soft_limit_flaw() -> &'static str
+    ensures { result.now ≡ soft_limit_flaw }
+{
+    " has a soft_limit that is no whole number from 0 to 256"
+}
+
+/// What is wrong with a route over too many servers.
+#[tactic(auto, using(crate::proofs::ReasonLemmas::too_many_words))]
+fn too_many_servers() -> &'static str
+    ensures { result.now ≡ too_many_text }
+{
+    "the route has more than 256 servers"
+}
+
 /// What is wrong with a key of a pool that says how it spreads keys.
-#[tactic(auto, unfolding(crate::specs::Reasons::key_flaw))]
+#[tactic(auto, unfolding(crate::specs::Reasons::key_flaw), using(crate::proofs::ReasonLemmas::weight_digits))]
 fn key_flaw(key: PoolKey) -> &'static str
     ensures { result.now ≡ key_flaw key }
 {
@@ -184,6 +198,7 @@ fn route_text(route: Option<&Value>) -> &'static str
 }
 
 /// What is wrong with a route that is an object.
+#[tactic(auto, using(crate::proofs::ReasonLemmas::exptime_digits))]
 fn object_text(route: &Value) -> &'static str
     ensures { result.now ≡ object_text (view route.now) }
 {

@@ -1,4 +1,4 @@
-use Rattle.std.proofs.Common.{take, rules, sym}
+use Rattle.std.proofs.Common.{take, rules}
 use Rattle.tko_links.proofs.ConnectLemmas.{part_failed}
 use Rattle.tko_links.proofs.PartLemmas.{part_as, part_kept}
 use Rattle.tko_reach.proofs.HearLemmas.{got_nothing, heard_more, heard_none, hears_answer, hears_end, hears_failed}
