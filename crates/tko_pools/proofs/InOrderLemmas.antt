@@ -5,7 +5,7 @@ use Rattle.std.specs.Prelude.{Option, None, replicate}
 use Rattle.std.proofs.Math.Nat.{mod-one}
 use Rattle.std.proofs.lemmas.List.{length-map, length-replicate}
 use Rattle.std.proofs.lemmas.List.Elements.{All-nil, All-cons}
-use Rattle.std.proofs.lemmas.List.FromFn.{map-range_with_len_more}
+use Rattle.std.proofs.lemmas.List.FromFn.{length-map-range_with_len, map-range_with_len_more}
 use Rattle.tko_pools.specs.Configs.{Configuration, IsSoundConfig, alone, in_order, numbers_below, targets_of}
 use Rattle.tko_pools.specs.Children.{Child, IsSoundChild, hash_by, key_target, targets_for}
 use Rattle.tko_model.specs.Limits.{max_servers}
@@ -21,18 +21,19 @@ children-more count children all child before last e =
     rw (e, before, last) (sym more)
 
 -- the configuration is the one of these addresses
-pub in_order-made : {X : Type 0} (text : X → List ℕ) (texts : List X) (addresses : List (List ℕ)) (children : List Child) (groups : List ℕ) (limits : List (Option ℕ)) (count : ℕ)
-    → addresses ≡ map text texts → children ≡ map alone (numbers_below count)
+pub in_order-made : {X : Type 0} (text : X → List ℕ) (texts : List X) (addresses names : List (List ℕ)) (children : List Child) (groups : List ℕ) (limits : List (Option ℕ)) (count : ℕ)
+    → addresses ≡ map text texts → names ≡ map text texts → children ≡ map alone (numbers_below count)
     → groups ≡ replicate (length texts) 0 → limits ≡ None ∷ [] → count ≡ length texts
     → record {
       addresses = addresses;
+      names = names;
       children = children;
       failover_exptime = default_exptime;
       groups = groups;
       soft_limits = limits;
     } ≡ in_order (map text texts)
-in_order-made text texts addresses children groups limits count named numbered grouped limited counted =
-    rw (named, numbered, grouped, limited, counted, length-map texts text) refl
+in_order-made text texts addresses names children groups limits count listed named numbered grouped limited counted =
+    rw (listed, named, numbered, grouped, limited, counted, length-map texts text) refl
 
 -- the server of a child with one server
 targets-alone : (key numbers : List ℕ) → targets_for key (map alone numbers) ≡ numbers
@@ -75,6 +76,7 @@ one-group (suc count) = All-cons (λ group. group < 1) 0 (replicate count 0) (om
 in_order-sound : (addresses : List (List ℕ)) → length addresses ≤ max_servers → IsSoundConfig (in_order addresses)
 in_order-sound addresses few = record {
   children = each-sound (numbers_below (length addresses));
+  named = sym (length-map-range_with_len alone 0 (length addresses));
   numbers = below 0 (length addresses) (length addresses) (omega arith);
   servers = few;
   groups = record {

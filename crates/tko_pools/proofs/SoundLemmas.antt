@@ -108,8 +108,9 @@ numbers-below addresses pools name known =
     (All-weaker (IsKnown addresses) (λ text. P (number_in addresses text)) (known-number addresses) (servers_named pools name) known)
 
 -- what is known of the parts of a configuration, as they are made
-pub record AreParts (pools : Data) (names addresses : List (List ℕ)) (children : List Child) (groups : List ℕ) (limits : List (Option ℕ)) : Type 0 where
+pub record AreParts (pools : Data) (names addresses kept : List (List ℕ)) (children : List Child) (groups : List ℕ) (limits : List (Option ℕ)) : Type 0 where
   pub are_addresses : addresses ≡ addresses_of pools names
+  pub are_names : kept ≡ names
   pub are_children : AreChildren addresses pools names children
   pub sound : All (IsSoundName pools) names
   pub some : 0 < length names
@@ -125,7 +126,7 @@ some-servers (child ∷ children) count some sound below =
     some-below child.servers count (All-head IsSoundChild child children sound).some
     (All-head (λ (c : Child). AllBelow count c.servers) child children below)
 
-module _ (pools : Data) (names addresses : List (List ℕ)) (children : List Child) (groups : List ℕ) (limits : List (Option ℕ)) (exptime : ℕ) (parts : AreParts pools names addresses children groups limits) where
+module _ (pools : Data) (names addresses kept : List (List ℕ)) (children : List Child) (groups : List ℕ) (limits : List (Option ℕ)) (exptime : ℕ) (parts : AreParts pools names addresses kept children groups limits) where
   abbrev numbers : List (List ℕ)
   numbers = numbers_of children
 
@@ -169,14 +170,18 @@ module _ (pools : Data) (names addresses : List (List ℕ)) (children : List Chi
       let owned = length-owners numbers (length addresses) in
       omega (arith, few, owned, parts.within)
 
-  some-children : 0 < length children
-  some-children =
+  all-named : length names ≡ length children
+  all-named =
       let count : length numbers ≡ length names = rw (same-numbers, length-map names (child_of addresses pools)) refl in
       let same : length numbers ≡ length children = length-map children (λ (child : Child). child.servers) in
-      omega (arith, count, same, parts.some)
+      omega (arith, count, same)
+
+  some-children : 0 < length children
+  some-children = omega (arith, all-named, parts.some)
 
   are-groups : AreGroups (record {
     addresses = addresses;
+    names = kept;
     children = children;
     failover_exptime = exptime;
     groups = groups;
@@ -196,6 +201,7 @@ module _ (pools : Data) (names addresses : List (List ℕ)) (children : List Chi
 
   pub is-sound : IsSoundConfig (record {
     addresses = addresses;
+    names = kept;
     children = children;
     failover_exptime = exptime;
     groups = groups;
@@ -204,6 +210,7 @@ module _ (pools : Data) (names addresses : List (List ℕ)) (children : List Chi
   is-sound =
       record {
         children = are-all-sound;
+        named = rw parts.are_names all-named;
         numbers = children-below;
         servers = parts.within;
         groups = are-groups;

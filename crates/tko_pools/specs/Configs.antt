@@ -1,5 +1,5 @@
 -- What a configuration is: the servers by their numbers, and each child's servers.
-use Rattle.std.specs.Prelude.{◌≡◌, ℕ, ◌<◌, ◌≤◌, List, [], ◌∷◌, length, map, get_or, replicate, All, Option, Some, None, IfSome, is_some, unwrap_or, true, slice_get, option_and_then}
+use Rattle.std.specs.Prelude.{◌≡◌, ℕ, ◌<◌, ◌≤◌, List, [], ◌∷◌, length, map, get_or, replicate, All, Option, Some, None, IfSome, is_some, unwrap_or, true, slice_get, option_and_then, option_map}
 use Rattle.std.specs.List.{flat_map, range_with_len}
 use Rattle.std.specs.Str.{IsUtf8}
 use Rattle.serde_json.specs.Data.{Data}
@@ -24,6 +24,8 @@ use Rattle.tko_ring.specs.declared.key_part.KeyPart.TheVariants as part
 pub record Configuration : Type 0 where
   -- the addresses in the order of their numbers
   pub addresses : List (List ℕ)
+  -- the names of the pools of the route, in its order
+  pub names : List (List ℕ)
   -- the pools of the route
   pub children : List Child
   -- the greatest expiry after the first target
@@ -40,6 +42,11 @@ targets_of config key = targets_for key config.children
 -- the points of the child at this place, if it has a ring
 abbrev pub ring_at : Configuration → ℕ → Option (List Point)
 ring_at config place = option_and_then (λ child. child.ring) (slice_get config.children place)
+
+-- the numbers of the servers of the child at this place; none if there is no such child
+abbrev pub servers_at : Configuration → ℕ → List ℕ
+servers_at config place =
+    unwrap_or (option_map (λ child. child.servers) (slice_get config.children place)) []
 
 -- these are the targets of a key: of each child the server that owns the key
 abbrev pub AreOwners : Configuration → List ℕ → List ℕ → Type 0
@@ -82,6 +89,7 @@ configuration pools route children =
     let numbers = numbers_of children in
     record {
       addresses = addresses;
+      names = route.children;
       children = children;
       failover_exptime = route.failover_exptime;
       groups = groups_in numbers (length addresses);
@@ -119,11 +127,12 @@ alone number = record {
   ring = None;
 }
 
--- the configuration without pools: each of these addresses is a child of its own, and all servers
--- are in one group
+-- the configuration without pools: each of these addresses is a child of its own, which is named by
+-- it, and all servers are in one group
 abbrev pub in_order : List (List ℕ) → Configuration
 in_order addresses = record {
   addresses = addresses;
+  names = addresses;
   children = map alone (numbers_below (length addresses));
   failover_exptime = default_exptime;
   groups = replicate (length addresses) 0;
@@ -161,9 +170,11 @@ pub record AreGroups (config : Configuration) : Type 0 where
   pub within : All (λ group. group < length config.soft_limits) config.groups
   pub small : All (λ limit. IfSome limit (λ n. n ≤ max_limit)) config.soft_limits
 
--- each child is sound, each number is below the number of addresses, and the servers have groups
+-- each child is sound and has a name, each number is below the number of addresses, and the servers
+-- have groups
 pub record IsSoundConfig (config : Configuration) : Type 0 where
   pub children : All IsSoundChild config.children
+  pub named : length config.names ≡ length config.children
   pub numbers :
       All (λ child. All (λ number. number < length config.addresses) child.servers)
       config.children

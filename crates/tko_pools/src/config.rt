@@ -1,19 +1,21 @@
 //! A configuration and how it is read.
 ghost use Rattle.std.specs.Prelude.{◌≡◌, ◌<◌, [], None, IfOk, IfErr, OnOk, OnErr, length, map, option_map, string_bytes, unwrap_or};
 ghost use Rattle.serde_json.specs.View.{view};
-ghost use Rattle.tko_pools.specs.Configs.{IsConfiguration, IsMeaning, IsRoot, Means, Refuses, addresses_of};
+ghost use Rattle.tko_pools.specs.Configs.{IsConfiguration, IsMeaning, IsRoot, Means, Refuses};
 ghost use Rattle.tko_pools.specs.Json.{pool_list};
 ghost use Rattle.tko_pools.specs.Reasons.{Reports, children_reason, pools_reason, reason_of};
 
 mod copying;
 mod in_order;
+mod route_pools;
 
 use crate::ConfigFault;
 use crate::child::Child;
 use crate::children::children_of;
+use crate::config::route_pools::{addresses_of, copied_names};
 use crate::flaws::{check_pools, unknown_child};
 use crate::groups::ServerGroups;
-use crate::json::{pools_in, servers_named};
+use crate::json::pools_in;
 use crate::numbering::NumberedAddresses;
 use crate::route::Route;
 use crate::targets::push_targets;
@@ -31,6 +33,8 @@ const MAX_ADDRESSES: usize = tko_model::MAX_SERVERS as usize;
 #[derive(Drop)]
 pub struct Config {
     addresses: NumberedAddresses,
+    /// Of each child: the name of its pool.
+    names: Vec<String>,
     children: Vec<Child>,
     failover_exptime: u32,
     /// Of each server: the number of its group.
@@ -40,12 +44,14 @@ pub struct Config {
 }
 
 impl Model for Config {
+    ghost use Rattle.std.specs.Prelude.{map, string_bytes};
     ghost use Rattle.tko_pools.specs.Configs.{Configuration, IsSoundConfig};
 
     ghost Value = { Configuration };
 
     ghost view = { λ c. record {
       addresses = c.addresses;
+      names = map string_bytes c.names.items;
       children = c.children.items;
       failover_exptime = c.failover_exptime;
       groups = c.groups.items;
@@ -54,6 +60,7 @@ impl Model for Config {
 
     ghost invariant = { λ c. IsSoundConfig (record {
       addresses = c.addresses;
+      names = map string_bytes c.names.items;
       children = c.children.items;
       failover_exptime = c.failover_exptime;
       groups = c.groups.items;
@@ -105,10 +112,12 @@ impl Config {
         if addresses.len() > MAX_ADDRESSES {
             return Err(ConfigFault::TooManyServers);
         }
+        let copies = copied_names(alloc, names)?;
         let children = children_of(alloc, &addresses, pools, names)?;
         let grouping = ServerGroups::of(alloc, pools, names, &children, addresses.len())?;
         Ok(Config {
             addresses,
+            names: copies,
             children,
             failover_exptime: route.failover_exptime(),
             groups: grouping.groups,
@@ -215,20 +224,4 @@ fn root_of(alloc: Global, text: &[u8]) -> Result<Value, ConfigFault>
         Err(error) if error.is_memory() => Err(ConfigFault::Memory),
         Err(_) => Err(ConfigFault::Json),
     }
-}
-
-/// The addresses of these pools.
-fn addresses_of(
-    alloc: Global,
-    pools: &Value,
-    names: &[&str],
-) -> Result<NumberedAddresses, AllocError>
-    ensures { IfOk result (λ addresses. addresses
-        ≡ addresses_of (view pools.now) (map (λ name. name.now) names.now)) }
-{
-    let mut addresses = NumberedAddresses::new(alloc);
-    for name in names {
-        addresses.add_all(alloc, servers_named(pools, name))?;
-    }
-    Ok(addresses)
 }

@@ -110,7 +110,8 @@ impl NumberedAddresses {
     }
 }
 
-fn copy_texts(alloc: Global, texts: &[String]) -> Result<Vec<String>, AllocError>
+/// Copies of these texts, in order.
+pub(crate) fn copy_texts(alloc: Global, texts: &[String]) -> Result<Vec<String>, AllocError>
     ensures { IfOk result (λ copies. map string_bytes copies.items ≡ map string_bytes texts.now) }
 {
     let mut copies = Vec::new(alloc);

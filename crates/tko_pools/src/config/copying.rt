@@ -3,6 +3,7 @@ ghost use Rattle.std.specs.Prelude.{◌≡◌, IfOk};
 
 use super::Config;
 use crate::child::Child;
+use crate::numbering::copy_texts;
 use std::alloc::Global;
 use tko_bytes::NoMemory;
 
@@ -12,6 +13,7 @@ impl Config {
     {
         Ok(Config {
             addresses: self.addresses.copy(alloc)?,
+            names: copy_texts(alloc, &self.names)?,
             children: copy_children(alloc, &self.children)?,
             failover_exptime: self.failover_exptime,
             groups: self.groups.to_vec(alloc)?,

@@ -5,7 +5,7 @@ ghost use Rattle.tko_model.specs.Limits.{max_servers};
 
 use super::Config;
 use crate::child::Child;
-use crate::numbering::NumberedAddresses;
+use crate::numbering::{NumberedAddresses, copy_texts};
 use crate::route::DEFAULT_EXPTIME;
 use std::alloc::Global;
 use tko_bytes::NoMemory;
@@ -24,6 +24,7 @@ impl Config {
             groups: vec![in alloc; 0; addresses.len()]?,
             soft_limits: vec![in alloc; None; 1]?,
             children: children_in_order(alloc, addresses.len())?,
+            names: copy_texts(alloc, &addresses)?,
             addresses: NumberedAddresses::of(addresses),
             failover_exptime: DEFAULT_EXPTIME,
         })

@@ -25,8 +25,9 @@ invariant_of-result c =
     let within : length addresses ≤ max_servers = search rules in
     let grouped : c.in_ok-grouping.grouping.groups.items ≡ groups_in (numbers_of children) (length addresses) = search rules in
     let limited : c.in_ok-grouping.grouping.soft_limits.items ≡ soft_limits_in pools names (numbers_of children) (length addresses) = search rules in
-    is-sound pools names addresses children _ _ _ (record {
+    is-sound pools names addresses _ children _ _ _ (record {
       are_addresses = c.in_ok-addresses.ensures;
+      are_names = c.in_ok-copies.ensures;
       are_children = c.in_ok-children.ensures;
       sound = children-sound pools names c.requires.sound named;
       some = rw c.children-names.ensures c.requires.some;

@@ -4,7 +4,7 @@ use Rattle.serde_json.specs.View.{view}
 use Rattle.tko_pools.specs.Configs.{addresses_of}
 use Rattle.tko_pools.specs.Json.{servers_named}
 use Rattle.tko_pools.specs.Numbering.{with_address}
-use Rattle.tko_pools.proofs.config.addresses_of.Given as goal
+use Rattle.tko_pools.proofs.config.route_pools.addresses_of.Given as goal
 
 -- the pools that are left give the addresses that all of them give
 abbrev pub invariant-loop-name : goal.invariant-loop-name
