@@ -4,6 +4,7 @@ ghost use Rattle.tko_io.specs.Clocks.{IsFrozen, IsListed};
 
 use crate::IoRuntime;
 use std::marker::Model;
+use std::time::Instant;
 
 /// Moments in milliseconds. Each call is one item of a record that contracts see.
 pub trait Clock {
@@ -14,6 +15,12 @@ pub trait Clock {
 
     fn next<R: IoRuntime>(&mut self, rt: &R) -> u64
         ensures { reads self.old result self.new };
+
+    /// The instant of the last moment, if there is one: finer than milliseconds, for what is timed.
+    /// No contract speaks of it.
+    fn instant(&self) -> Option<Instant> {
+        None
+    }
 }
 
 /// A clock that stands still at moment 0.

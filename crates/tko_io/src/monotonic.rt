@@ -16,6 +16,8 @@ use std::time::Instant;
 pub struct MonotonicClock {
     start: Option<Instant>,
     last: u64,
+    /// When it was read last.
+    read: Option<Instant>,
 }
 
 impl Model for MonotonicClock {
@@ -35,6 +37,7 @@ impl MonotonicClock {
         MonotonicClock {
             start: Instant::now(clock).ok(),
             last: 0,
+            read: None,
         }
     }
 
@@ -53,6 +56,7 @@ impl MonotonicClock {
         if let Some(now) = now {
             let start = self.start.unwrap_or(now);
             self.start = Some(start);
+            self.read = Some(now);
             self.last = self.last.max(millis_between(start, now));
         }
         self.last
@@ -78,5 +82,9 @@ impl Clock for MonotonicClock {
         ensures { IsElapsed self.old result self.new }
     {
         self.read(rt)
+    }
+
+    fn instant(&self) -> Option<Instant> {
+        self.read
     }
 }

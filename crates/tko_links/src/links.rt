@@ -2,6 +2,7 @@
 ghost use Rattle.std.specs.Prelude.{◌≡◌, ◌+◌, ◌<◌, ◌↔◌, ℕ};
 ghost use Rattle.tko_links.specs.Links.{HasExchanged, WasProbed, is_counted, most_sends, part_of};
 
+use std::time::Instant;
 use tko_io::IoRuntime;
 use tko_model::{Clear, Duty};
 use tko_text::{Request, Response};
@@ -85,4 +86,10 @@ pub trait Links {
     fn probes(&self, server: usize) -> u64
         requires { server < servers self.now }
         ensures { result ≡ probed self.now server };
+
+    /// When the last exchange with a server began, if the links know it: for what is timed. No
+    /// contract speaks of it.
+    fn begun(&self, _server: usize) -> Option<Instant> {
+        None
+    }
 }

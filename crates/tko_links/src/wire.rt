@@ -2,6 +2,7 @@
 ghost use Rattle.std.specs.Prelude.{◌≡◌, ◌+◌, ◌<◌, ◌≤◌, true, false, IfOk, length};
 ghost use Rattle.tko_links.specs.Wires.{AllSame, MayConnect, MayRead, MayWrite, OthersSame, Checked, Limited, Shut, connect_item, wire_faults_in, is_ok, read_item, wire_refusals_in, write_item};
 
+use std::time::Instant;
 use tko_io::IoRuntime;
 
 /// Why a call on a connection failed.
@@ -105,4 +106,9 @@ pub trait Wire {
 
     fn servers(&self) -> usize
         ensures { result ≡ servers self.now };
+
+    /// When the last exchange with a server began, if the wire knows it. No contract speaks of it.
+    fn begun(&self, _server: usize) -> Option<Instant> {
+        None
+    }
 }

@@ -9,6 +9,7 @@ use crate::links::{ExchangeNoMemory, Links, Outcome};
 use crate::wire::Wire;
 use std::alloc::Global;
 use std::marker::Model;
+use std::time::Instant;
 use tko_io::IoRuntime;
 use tko_model::{Clear, Duty};
 use tko_text::Request;
@@ -177,5 +178,9 @@ impl<W: Wire> Links for Wired<W> {
 
     fn probes(&self, server: usize) -> u64 {
         self.probes[server]
+    }
+
+    fn begun(&self, server: usize) -> Option<Instant> {
+        self.wire.begun(server)
     }
 }

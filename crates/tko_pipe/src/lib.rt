@@ -3,8 +3,8 @@
 //!
 //! - `Pipe`: the requests that were sent on one connection, from connecting until it is shut, and
 //!   the responses to them; `Link`: how far the connection is.
-//! - `Waiter`: one that waits for a response; `Asker`: who that is, and whether it gave up: then its
-//!   place stays, and its response is dropped when it comes.
+//! - `Waiter`: one that waits for a response; `Asker`: who that is, and whether it gave up: then
+//!   its place stays, and its response is dropped when it comes.
 //! - `Window`: since when how many bytes came on a connection.
 //! - `ShutCause`: why a connection was shut; `Fate`: what that makes of a request.
 #![tactic(auto)]

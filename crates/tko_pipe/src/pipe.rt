@@ -172,6 +172,13 @@ impl Pipe {
         self.waiters.get(place)
     }
 
+    /// How many wait for their responses, or to leave.
+    pub fn in_flight(&self) -> usize
+        ensures { result ≡ length self.now.waiters }
+    {
+        self.waiters.len()
+    }
+
     /// When the first response is late, if one is awaited and no byte comes: one time limit after
     /// its request, and after the last moment at which the connection had brought 64 KiB more.
     pub fn late_at(&self) -> Option<u64>

@@ -1,5 +1,5 @@
 -- The probers of a worker, one slot for each server.
-use Rattle.std.specs.Prelude.{◌≡◌, ℕ, Bool, true, false, if◌then◌else◌, List, [], ◌∷◌, map, replicate, count_by, slice_get, slice_set, Option, Some, None, Result, Ok, Err}
+use Rattle.std.specs.Prelude.{◌≡◌, ℕ, Bool, true, false, if◌then◌else◌, List, [], ◌∷◌, map, replicate, count_by, slice_get, slice_set, option_and_then, Option, Some, None, Result, Ok, Err}
 use Rattle.tko_model.specs.declared.mark.Op.{Op}
 use Rattle.tko_model.specs.declared.mark.Op.TheVariants.{HardFailure, Success}
 use Rattle.tko_model.specs.declared.mark.Reply.{Reply}
@@ -13,7 +13,7 @@ use Rattle.tko_prober.specs.declared.prober.AfterProbe.TheVariants as after
 use Rattle.tko_prober.specs.declared.prober.Probed.{Probed}
 use Rattle.tko_prober.specs.declared.prober.Probed.TheVariants as probe
 use Rattle.tko_prober.specs.declared.prober.Prober.{Prober}
-use Rattle.tko_prober.specs.Probes.{begun_prober, with_result}
+use Rattle.tko_prober.specs.Probes.{begun_prober, next_at, with_result}
 use Rattle.tko_route.specs.declared.attempt.Attempt.{Attempt}
 use Rattle.tko_route.specs.declared.attempt.Attempt.TheVariants as attempt
 use Rattle.tko_prober.specs.declared.probers.ProbeSlot.{ProbeSlot}
@@ -47,6 +47,11 @@ prober_in None = None
 -- the prober of a server, until it has recovered or was stopped
 abbrev pub prober_of : ProbersState → ℕ → Option Prober
 prober_of probers server = prober_in (slice_get probers.slots server)
+
+-- when the next probe of a server is due, if it is probed and no probe is out
+abbrev pub next_probe_at : ProbersState → ℕ → Option ℕ
+next_probe_at probers server =
+    option_and_then (λ prober. next_at prober.stage) (prober_of probers server)
 
 abbrev pub with_slot : ProbersState → ℕ → ProbeSlot → ProbersState
 with_slot probers server slot = record probers { slots = slice_set probers.slots server slot }

@@ -1,5 +1,5 @@
 -- The probes of one server: what each call does to a prober.
-use Rattle.std.specs.Prelude.{ℕ, ◌+◌, ◌≤◌}
+use Rattle.std.specs.Prelude.{ℕ, ◌+◌, ◌≤◌, Option, Some, None}
 use Rattle.tko_prober.specs.declared.delays.Delays.{Delays}
 use Rattle.tko_prober.specs.declared.prober.AfterProbe.{AfterProbe}
 use Rattle.tko_prober.specs.declared.prober.AfterProbe.TheVariants.{Recover, Harden, Again}
@@ -21,6 +21,12 @@ abbrev pub IsDue : ProberStage → ℕ → Type 0
 IsDue (Resting due) now = due ≤ now
 IsDue Out now = ⊥
 IsDue Ended now = ⊥
+
+-- when the next probe is due, if none is out and one follows
+abbrev pub next_at : ProberStage → Option ℕ
+next_at (Resting due) = Some due
+next_at Out = None
+next_at Ended = None
 
 -- a probe is out
 abbrev pub sent : Prober → Prober

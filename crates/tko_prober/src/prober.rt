@@ -1,7 +1,7 @@
 //! The probes of one marked server.
 ghost use Rattle.std.specs.Prelude.{◌≡◌, ◌↔◌, IsTrue};
 ghost use Rattle.tko_prober.specs.Delay.{due_after};
-ghost use Rattle.tko_prober.specs.Probes.{IsDue, begun_prober, ended, sent, asked_after, with_result};
+ghost use Rattle.tko_prober.specs.Probes.{IsDue, begun_prober, ended, sent, asked_after, next_at, with_result};
 
 use crate::Delays;
 
@@ -119,6 +119,16 @@ impl Prober {
         ensures { self.new ≡ ended self.old }
     {
         self.stage = ProberStage::Ended;
+    }
+
+    /// When the next probe is due, if none is out and one follows.
+    pub fn next_at(&self) -> Option<u64>
+        ensures { result ≡ next_at self.now.stage }
+    {
+        match self.stage {
+            ProberStage::Resting(moment) => Some(moment),
+            ProberStage::Out | ProberStage::Ended => None,
+        }
     }
 
     /// Whether a probe is out.

@@ -1,6 +1,6 @@
 //! The probers of a worker: which servers its failures marked, and when each is probed.
 ghost use Rattle.std.specs.Prelude.{◌≡◌, ◌<◌, ◌↔◌, IfOk, IsTrue, MatchOption, Some, count_by, is_some, length, map, replicate, slice_get, slice_set};
-ghost use Rattle.tko_prober.specs.Probers.{AreQuiet, begun_at, begun_slot, is_busy, no_probers, noted, noted_one, prober_in, prober_of, with_slot};
+ghost use Rattle.tko_prober.specs.Probers.{AreQuiet, begun_at, begun_slot, is_busy, next_probe_at, no_probers, noted, noted_one, prober_in, prober_of, with_slot};
 ghost use Rattle.tko_prober.specs.declared.probers.ProbeSlot.TheVariants.{Quiet};
 
 use crate::{Delays, Prober};
@@ -105,6 +105,16 @@ impl Probers {
         ensures { result ≡ length self.now.slots }
     {
         self.slots.len()
+    }
+
+    /// When the next probe of a server is due, if it is probed and no probe is out.
+    pub fn next_at(&self, server: usize) -> Option<u64>
+        ensures { result ≡ next_probe_at self.now server }
+    {
+        match self.slots.get(server)? {
+            ProbeSlot::Probing(prober) => prober.next_at(),
+            ProbeSlot::Quiet | ProbeSlot::Marked => None,
+        }
     }
 
     /// Begins a prober at this moment for each server that was marked.

@@ -39,6 +39,11 @@ impl ExchangeTime {
         }
     }
 
+    /// When it began, if the clock could be read.
+    pub(crate) fn begun(&self) -> Option<Instant> {
+        self.begun
+    }
+
     /// Reads the clock, after a call that waited for a quarter of the limit at most. If it cannot
     /// be read, so long passed.
     pub(crate) fn look<C: Clock>(&mut self, clock: &C)

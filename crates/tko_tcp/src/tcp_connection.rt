@@ -16,7 +16,7 @@ use crate::names::Names;
 use crate::tcp_connect::connect;
 use std::io;
 use std::io::{Error, ErrorKind};
-use std::time::Duration;
+use std::time::{Duration, Instant};
 use tko_io::IoRuntime;
 use tko_links::WireFault;
 
@@ -60,6 +60,11 @@ impl TcpConnection {
         self.time = ExchangeTime::begin(rt, limit);
         self.has_waited = false;
         self.socket.is_quiet()
+    }
+
+    /// When the time of its exchange began, if the clock could be read.
+    pub(crate) fn begun(&self) -> Option<Instant> {
+        self.time.begun()
     }
 
     /// Writes from the front of `bytes`, and returns how many bytes were written.

@@ -11,7 +11,7 @@ ghost use Rattle.tko_links.specs.Wires.{is_ok};
 use crate::exchange_time::ExchangeTime;
 use crate::names::Names;
 use crate::tcp_connection::TcpConnection;
-use std::time::Duration;
+use std::time::{Duration, Instant};
 use tko_io::IoRuntime;
 use tko_links::WireFault;
 
@@ -20,6 +20,8 @@ use tko_links::WireFault;
 pub(crate) struct TcpServer {
     address: String,
     connection: Option<TcpConnection>,
+    /// When the last exchange began, if the clock could be read. Contracts do not see it.
+    begun: Option<Instant>,
 }
 
 impl TcpServer {
@@ -30,6 +32,7 @@ impl TcpServer {
         TcpServer {
             address,
             connection: None,
+            begun: None,
         }
     }
 
@@ -54,6 +57,7 @@ impl TcpServer {
     {
         self.shut();
         let time = ExchangeTime::begin(rt, limit);
+        self.begun = time.begun();
         let connection = TcpConnection::open(rt, names, self.address.as_str(), time)?;
         self.connection = Some(connection);
         Ok(())
@@ -92,9 +96,18 @@ impl TcpServer {
         ensures address { address_of self.new ≡ address_of self.old }
     {
         match &mut self.connection {
-            Some(connection) => connection.begin(rt, limit),
+            Some(connection) => {
+                let usable = connection.begin(rt, limit);
+                self.begun = connection.begun();
+                usable
+            }
             None => false,
         }
+    }
+
+    /// When the last exchange began, if the clock could be read.
+    pub(crate) fn begun(&self) -> Option<Instant> {
+        self.begun
     }
 
     pub(crate) fn shut(&mut self)

@@ -14,7 +14,7 @@ use crate::probe_time::ProbeTime;
 use crate::tcp_server::TcpServer;
 use std::alloc::Global;
 use std::marker::Model;
-use std::time::Duration;
+use std::time::{Duration, Instant};
 use tko_bytes::NoMemory;
 use tko_io::IoRuntime;
 use tko_links::{Wire, WireFault, Wired, counted, counted_write};
@@ -143,5 +143,9 @@ impl Wire for TcpWire {
 
     fn servers(&self) -> usize {
         self.servers.len()
+    }
+
+    fn begun(&self, server: usize) -> Option<Instant> {
+        self.servers.get(server)?.begun()
     }
 }
