@@ -8,16 +8,17 @@ use Rattle.tko_route.specs.Calls.{RoutedCall}
 use Rattle.tko_route.specs.Routing.{Reached}
 use Rattle.tko_route.specs.declared.attempt.Attempt.{Attempt}
 use Rattle.tko_route.specs.declared.routing.Stage.{Stage}
+use Rattle.tko_text.specs.declared.fault.TextFault.{TextFault}
 use Rattle.tko_text.specs.declared.request.Request.{Request}
 use Rattle.tko_reply.specs.Asking.{Course, Goes}
 use Rattle.tko_reply.specs.Sends.{IsSent}
 use Rattle.tko_reply.specs.Standing.{SentKey}
 use Rattle.tko_reply.specs.declared.asking.OneKey.{OneKey}
-use Rattle.tko_session.specs.Acts.{phase_after}
+use Rattle.tko_session.specs.Acts.{phase_after, progress_phase}
 use Rattle.tko_session.specs.Awaiting.{awaited_in}
 use Rattle.tko_session.specs.Driven.{KeyBegun, KeyDropped, OutcomeTaken, WasDroppedFrom, WasDropped}
 use Rattle.tko_session.specs.Driven.{WentOn, WentOnFrom, step_of, went, work_of}
-use Rattle.tko_session.specs.SessionState.{SessionState}
+use Rattle.tko_session.specs.SessionState.{SessionState, progress_after}
 use Rattle.tko_session.specs.Working.{Work}
 use Rattle.tko_session.specs.declared.step.Progress.{Progress}
 use Rattle.tko_session.specs.declared.step.Step.{Step}
@@ -31,15 +32,19 @@ use Rattle.tko_client.specs.Answerings.{IsOwn}
 use Rattle.tko_client.specs.Steps.{BeganAt, IsOfSession, StandsAfter, WentReading, phase_of}
 use Rattle.tko_client.specs.Steps.{server_asked_in, went_from, went_of}
 
+phase_of_progress : (at : Progress) → progress_phase at ≡ phase_of (went_of at)
+phase_of_progress progress.More = refl
+phase_of_progress progress.NeedsInput = refl
+phase_of_progress progress.Quit = refl
+phase_of_progress progress.LineTooLong = refl
+
 -- how a client stands after a call that said this
 pub phase_same : (said : Step) → phase_after said ≡ phase_of (went_from said)
 phase_same step.Began = refl
 phase_same (step.Asks clear) = refl
 phase_same (step.Tried trail) = refl
-phase_same (step.At progress.More) = refl
-phase_same (step.At progress.NeedsInput) = refl
-phase_same (step.At progress.Quit) = refl
-phase_same (step.At progress.LineTooLong) = refl
+phase_same (step.Refused fault) = phase_of_progress (progress_after fault)
+phase_same (step.At at) = phase_of_progress at
 
 none_asked : (at : Progress) → server_asked_in (went_of at) ≡ None
 none_asked progress.More = refl
@@ -51,6 +56,11 @@ none_asked progress.LineTooLong = refl
 at_asks : {said : Step} (at : Progress) → said ≡ step.At at
     → server_asked_in (went_from said) ≡ None
 at_asks at is = ap (λ s. server_asked_in (went_from s)) is ∙ none_asked at
+
+refused_asks : {said : Step} (fault : TextFault) → said ≡ step.Refused fault
+    → server_asked_in (went_from said) ≡ None
+refused_asks fault is =
+    ap (λ s. server_asked_in (went_from s)) is ∙ none_asked (progress_after fault)
 
 -- where a send is out, the permission names its server
 abbrev pub NamesAt : Stage → Type 0
@@ -76,14 +86,18 @@ stage_began : (at : Stage) (w : Work) → BeganAt (step_of at) w
 stage_began (stage.Away clear awaited) w = tt
 stage_began (stage.Done trail) w = tt
 
+of_progress : (at : Progress) → IsOfSession (went_of at)
+of_progress progress.More = tt
+of_progress progress.NeedsInput = tt
+of_progress progress.Quit = tt
+of_progress progress.LineTooLong = tt
+
 of_session : (said : Step) → IsOfSession (went_from said)
 of_session step.Began = tt
 of_session (step.Asks clear) = tt
 of_session (step.Tried trail) = tt
-of_session (step.At progress.More) = tt
-of_session (step.At progress.NeedsInput) = tt
-of_session (step.At progress.Quit) = tt
-of_session (step.At progress.LineTooLong) = tt
+of_session (step.Refused fault) = of_progress (progress_after fault)
+of_session (step.At at) = of_progress at
 
 own_stage : (at : Stage) (one : OneKey) → IsOwn (work_of at one)
 own_stage (stage.Away clear awaited) one = tt
@@ -98,6 +112,15 @@ said_at : (said : Step) (w : Work) (at : Progress) → said ≡ step.At at → w
     → LeavesAt said w
 said_at said w at is none = (
   ap awaited_in none ∙ sym (at_asks at is),
+  subst (λ s. BeganAt s w) (sym is) tt,
+  subst IsOwn (sym none) tt,
+)
+
+-- or it refused a line there
+said_refused : (said : Step) (w : Work) (fault : TextFault) → said ≡ step.Refused fault
+    → w ≡ work.Between → LeavesAt said w
+said_refused said w fault is none = (
+  ap awaited_in none ∙ sym (refused_asks fault is),
   subst (λ s. BeganAt s w) (sym is) tt,
   subst IsOwn (sym none) tt,
 )
@@ -125,7 +148,7 @@ module _ (config : Configuration) where
   leaves_from work.Between old calls said new is (none, driven.none needs says same) =
       said_at said new.work progress.NeedsInput says (ap (λ (s : SessionState). s.work) same ∙ is)
   leaves_from work.Between old calls said new is (none, driven.refused fault emits says same) =
-      said_at said new.work _ says (ap (λ (s : SessionState). s.work) same ∙ is)
+      said_refused said new.work fault says (ap (λ (s : SessionState). s.work) same ∙ is)
   leaves_from work.Between old calls said new is (none, driven.asked it emits says same) =
       let to = ap (λ (s : SessionState). s.work) same in (
         ap awaited_in to ∙ ap (λ s. server_asked_in (went_from s)) (sym says),

@@ -45,7 +45,7 @@ module _ (config : Configuration) where
   reads_from work.Between old calls said new (none, driven.none needs says same) =
       said_reading progress.NeedsInput new.reading says tt
   reads_from work.Between old calls said new (none, driven.refused fault emits says same) =
-      said_reading (progress_after fault) new.reading says
+      subst (λ s. WentReading (went_from s) new.reading) (sym says)
       (progress_reading (progress_after fault) _ new.reading
       (fault_progress fault old.reading new.reading emits))
   reads_from work.Between old calls said new (none, driven.asked it emits says same) =

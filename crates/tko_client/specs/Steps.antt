@@ -15,7 +15,7 @@ use Rattle.tko_session.specs.Acts.{IsLoss, IsSessionCall, IsToRecord, came_to, l
 use Rattle.tko_session.specs.Clients.{ClientPhase, Open, Over as PhaseOver, Short as PhaseShort}
 use Rattle.tko_session.specs.Awaiting.{awaited_in}
 use Rattle.tko_session.specs.Driven.{IsSessionReady, dropped}
-use Rattle.tko_session.specs.SessionState.{SessionState}
+use Rattle.tko_session.specs.SessionState.{SessionState, progress_after}
 use Rattle.tko_session.specs.Working.{Awaits, Between, Work, request_read_in}
 use Rattle.tko_session.specs.declared.step.Progress.{Progress}
 use Rattle.tko_session.specs.declared.step.Progress.TheVariants as progress
@@ -55,6 +55,7 @@ abbrev pub went_from : Step → Went
 went_from step.Began = On
 went_from (step.Asks clear) = Asks clear
 went_from (step.Tried trail) = On
+went_from (step.Refused fault) = went_of (progress_after fault)
 went_from (step.At at) = went_of at
 
 -- the server that is asked
@@ -120,6 +121,7 @@ abbrev pub BeganAt : Step → Work → Type 0
 BeganAt step.Began at = IsSome (request_read_in at)
 BeganAt (step.Asks clear) at = Unit {0}
 BeganAt (step.Tried trail) at = Unit {0}
+BeganAt (step.Refused fault) at = Unit {0}
 BeganAt (step.At it) at = Unit {0}
 
 -- what calls of sessions leave of the parts, so that each other session can go on

@@ -16,8 +16,8 @@ use tko_links::Outcome;
 use tko_model::Clear;
 use tko_route::Health;
 use tko_session::{
-    Parts, Progress, Session, Step, Trails, observe_attempts, observe_drop, observe_request,
-    observe_trail,
+    Parts, Progress, Session, Step, Trails, observe_attempts, observe_drop, observe_end,
+    observe_refusal, observe_request, observe_trail,
 };
 
 /// What a call of a session came to.
@@ -105,7 +105,11 @@ fn observe<R: IoRuntime, H: Health, T: Trails, C>(
     ensures stays { HasStayed H.servers parts.old parts.new }
 {
     match step {
-        Step::At(progress) => Ok(went_of(progress)),
+        Step::Refused(fault) => Ok(went_of(observe_refusal(rt, session, parts, fault))),
+        Step::At(progress) => {
+            observe_end(session, parts, progress);
+            Ok(went_of(progress))
+        }
         Step::Asks(clear) => {
             observe_attempts(rt, &mut parts.trails, session.attempts(), told);
             Ok(Went::Asks(clear))

@@ -10,6 +10,7 @@ use crate::answering::Answering;
 use crate::going::go_on;
 use crate::taking::take;
 use std::alloc::Global;
+use std::net::SocketAddr;
 use tko_bytes::NoMemory;
 use tko_io::IoRuntime;
 use tko_keys::KeyPlan;
@@ -62,6 +63,13 @@ impl EventClient {
             course: ClientStanding::Going,
             taken: 0,
         }
+    }
+
+    /// It came from this address, for an observer.
+    pub fn note_address(&mut self, client: SocketAddr)
+        ensures { self.new ≡ self.old }
+    {
+        self.answering.session.note_client(client);
     }
 
     /// How it stands.

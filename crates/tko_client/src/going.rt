@@ -13,6 +13,7 @@ use crate::calls::{Went, go_once};
 use crate::halt::Halt;
 use crate::handing::{end_keys, hand_over};
 use crate::keys::begin_key;
+use crate::moments::{note_sent, tell_end};
 use crate::{ClientStanding, Sends};
 use std::alloc::Global;
 use tko_io::IoRuntime;
@@ -26,8 +27,27 @@ const SHARE: usize = 256;
 /// So many bytes of replies cost as much as a call.
 const REPLY_UNIT: usize = 12;
 
-/// Goes on while it can, until its share is used up.
+/// Goes on while it can, until its share is used up. Notes when the request is sent that is asked
+/// for then.
 pub(crate) fn go_on<R: IoRuntime, H: Health, T: Trails, C>(
+    rt: &R,
+    alloc: Global,
+    it: &mut Answering,
+    parts: &mut Parts<H, Sends, T, C>,
+) -> Halt
+    requires servers { H.servers parts.old.backend.health ≡ length parts.old.config.addresses }
+    requires ready { IsAnsweringReady parts.old.config it.old }
+    requires may { MayCallClient it.old }
+    ensures { IsHalted (client_ghosts H.Health T.Trails) H.servers result.course result.asked
+        (it.old, parts.old) (it.new, parts.new) }
+{
+    let halt = go_while(rt, alloc, it, parts);
+    note_sent(it, parts, &halt.asked);
+    halt
+}
+
+/// Goes on while it can, until its share is used up.
+fn go_while<R: IoRuntime, H: Health, T: Trails, C>(
     rt: &R,
     alloc: Global,
     it: &mut Answering,
@@ -110,7 +130,9 @@ fn call_once<R: IoRuntime, H: Health, T: Trails, C>(
             } else if keys.is_asking() {
                 Went::Waits
             } else {
-                end_keys(it)
+                let went = end_keys(it);
+                tell_end(it, parts, &went);
+                went
             }
         }
         None => call_session(rt, alloc, it, parts),

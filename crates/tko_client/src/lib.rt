@@ -20,6 +20,7 @@ mod handing;
 mod keys;
 mod law;
 mod lent;
+mod moments;
 mod sends;
 mod taking;
 

@@ -18,6 +18,7 @@ use crate::arriving::{stop_keys, take_keys};
 use crate::calls::{Went, take_once};
 use crate::counting::{count_sends, tell_unsent};
 use crate::halt::Halt;
+use crate::moments::{note_sent, tell_response};
 use std::alloc::Global;
 use tko_io::IoRuntime;
 use tko_links::Outcome;
@@ -26,8 +27,32 @@ use tko_pipe::Fate;
 use tko_route::Health;
 use tko_session::{Parts, Session, Trails, observe_drop};
 
-/// Takes what came of a request to this server.
+/// Takes what came of a request to this server, and tells a response. Notes when the request is
+/// sent that is asked for then.
 pub(crate) fn take<R: IoRuntime, H: Health, T: Trails, C>(
+    rt: &R,
+    alloc: Global,
+    it: &mut Answering,
+    parts: &mut Parts<H, Sends, T, C>,
+    server: usize,
+    came: Came,
+) -> Halt
+    requires servers { H.servers parts.old.backend.health ≡ length parts.old.config.addresses }
+    requires links { length parts.old.backend.links ≡ length parts.old.config.addresses }
+    requires ready { IsAnsweringReady parts.old.config it.old }
+    requires awaits { 0 < times_due (awaited_by_client it.old) server }
+    ensures taken { IsTakenTo (client_ghosts H.Health T.Trails) H.servers (is_unsent came) server
+        (result_of came) result.course result.asked (it.old, parts.old) (it.new, parts.new) }
+    ensures sent { IsSome result.asked → IsOk (result_of came) }
+{
+    tell_response(it, parts, server, &came);
+    let halt = take_came(rt, alloc, it, parts, server, came);
+    note_sent(it, parts, &halt.asked);
+    halt
+}
+
+/// Takes what came of a request to this server.
+fn take_came<R: IoRuntime, H: Health, T: Trails, C>(
     rt: &R,
     alloc: Global,
     it: &mut Answering,

@@ -5,11 +5,14 @@ ghost use Rattle.tko_reply.specs.TrailEvents.{Asked, Tried};
 
 use std::alloc::Global;
 use std::marker::Model;
+use std::net::SocketAddr;
+use std::time::Instant;
 use tko_bytes::NoMemory;
 use tko_io::IoRuntime;
+use tko_links::{ExchangeNoMemory, Outcome};
 use tko_prober::ProbeEnd;
 use tko_route::{Attempt, Trail};
-use tko_text::Request;
+use tko_text::{Request, TextFault};
 
 /// Records each item that isn't a fault, and then the trail of each of its keys. Where memory runs
 /// out, nothing is recorded. What else it is told changes nothing that contracts see.
@@ -41,6 +44,39 @@ pub trait Trails {
 
     /// A probe has ended.
     fn probed<R: IoRuntime>(&mut self, _rt: &R, _probe: &ProbeEnd)
+        ensures { self.new ≡ self.old }
+    {}
+
+    /// A line of the client at this address, where it is known, was refused for this fault, and
+    /// answered so.
+    fn refused<R: IoRuntime>(&mut self, _rt: &R, _fault: TextFault, _client: Option<SocketAddr>)
+        ensures { self.new ≡ self.old }
+    {}
+
+    /// The moment at which the worker looks, in microseconds of a clock of its own: what is timed
+    /// is the difference of two. `None` where nothing is timed.
+    fn now(&self) -> Option<u64> {
+        None
+    }
+
+    /// A server gave a response to what was sent to it at this moment.
+    fn responded(&mut self, _server: usize, _sent: u64)
+        ensures { self.new ≡ self.old }
+    {}
+
+    /// An exchange with this server ended so, which began at this instant, if that is known. Only
+    /// a worker that waits for each response tells it; the others tell `responded`.
+    fn exchanged(
+        &mut self,
+        _server: usize,
+        _begun: Option<Instant>,
+        _came: &Result<Outcome, ExchangeNoMemory>,
+    )
+        ensures { self.new ≡ self.old }
+    {}
+
+    /// A request that was read at this moment was answered wholly.
+    fn replied(&mut self, _read: u64)
         ensures { self.new ≡ self.old }
     {}
 }

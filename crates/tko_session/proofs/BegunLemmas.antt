@@ -14,7 +14,7 @@ use Rattle.tko_reply.specs.Standing.{whole_of}
 use Rattle.tko_reply.specs.declared.asking.OneKey.{OneKey}
 use Rattle.tko_session.specs.Driven.{ItemRead, with_request_read}
 use Rattle.tko_session.specs.Driven as driven
-use Rattle.tko_session.specs.SessionState.{SessionState, progress_after}
+use Rattle.tko_session.specs.SessionState.{SessionState}
 use Rattle.tko_session.specs.declared.step.Step.{Step}
 use Rattle.tko_session.specs.declared.step.Step.TheVariants as step
 
@@ -45,7 +45,7 @@ pub fault_read : {old read new : SessionState} {said : Step} (fault : TextFault)
     → Emits old.reading (item.Fault fault) read.reading
     → read ≡ record old { reading = read.reading }
     → new ≡ record read { outbox = read.outbox ++ fault_text fault }
-    → said ≡ step.At (progress_after fault) → ItemRead old said new
+    → said ≡ step.Refused fault → ItemRead old said new
 fault_read {old} {read} {new} fault told others is says =
     let to : new.reading ≡ read.reading = ap (λ (s : SessionState). s.reading) is in
     driven.refused fault (subst (λ r. Emits old.reading (item.Fault fault) r) (sym to) told) says

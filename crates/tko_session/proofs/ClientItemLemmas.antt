@@ -15,7 +15,7 @@ use Rattle.tko_session.specs.Acts.{IsToRecord, asked_at, left_after, phase_after
 use Rattle.tko_session.specs.Clients.{IsClientIn, IsClientOpen, IsClientShort, Life}
 use Rattle.tko_session.specs.Clients as clients
 use Rattle.tko_session.specs.Driven.{dropped}
-use Rattle.tko_session.specs.SessionState.{SessionState}
+use Rattle.tko_session.specs.SessionState.{SessionState, progress_after}
 use Rattle.tko_session.specs.SoFar.{IsPendingAt}
 use Rattle.tko_session.specs.Turns.{IsTurnWithin, SessionTurn}
 use Rattle.tko_session.specs.Turns as turn
@@ -151,6 +151,9 @@ module _ {plan : KeyPlan} (keys : Option KeysState) {config : Configuration} whe
   item_open {it} {new = new} more (step.At at) from is =
       subst (λ ds. IsClientIn (phase_after (step.At at)) plan keys config (did it ds) new)
       (sym (append-nil more)) (over_open at (more_from more from) is.on)
+  item_open {it} {new = new} more (step.Refused fault) from is =
+      subst (λ ds. IsClientIn (phase_after (step.Refused fault)) plan keys config (did it ds) new)
+      (sym (append-nil more)) (over_open (progress_after fault) (more_from more from) is.on)
   item_open {it} {old} {last} {new = new} more step.Began from is =
       let taken = is.on.1 in
       let asks = taken_asked taken in
@@ -211,6 +214,7 @@ module _ {plan : KeyPlan} {config : Configuration} where
       → IsFrom plan config it old last
       → IsItem config old owes (last ++ more) said mid → IsToRecord said → new ≡ dropped mid
       → IsClientShort plan config (did it (more ++ left_after said)) new
+  unrecorded_short more (step.Refused fault) from is never same = absurd never
   unrecorded_short more (step.At at) from is never same = absurd never
   unrecorded_short {it} {old} {last} {mid = mid} {new = new} more step.Began from is records same =
       let nothing : last ++ (more ++ []) ≡ [] = ap (λ ds. last ++ ds) (append-nil more) ∙ is.on.0 in

@@ -10,6 +10,7 @@ use Rattle.tko_links.specs.declared.links.ExchangeNoMemory.{ExchangeNoMemory}
 use Rattle.tko_links.specs.declared.links.Outcome.{Outcome}
 use Rattle.tko_pools.specs.Configs.{Configuration}
 use Rattle.tko_io.specs.declared.clock.Clock.{Ghosts as ClockGhosts}
+use Rattle.tko_text.specs.declared.fault.TextFault.{TextFault}
 use Rattle.tko_text.specs.declared.request.Request.{Request}
 use Rattle.tko_route.specs.Calls.{IsExchange, RoutedCall, Upstream, upstream}
 use Rattle.tko_route.specs.declared.attempt.Attempt.{Attempt}
@@ -26,7 +27,7 @@ use Rattle.tko_reply.proofs.InteractionLemmas.{config_kept}
 use Rattle.tko_session.specs.Acts.{came_to}
 use Rattle.tko_session.specs.Driven.{OutcomeTaken, WentOn, step_of}
 use Rattle.tko_session.specs.AnswerEnds.{IsSettled}
-use Rattle.tko_session.specs.SessionState.{SessionState, Snapshot, snapshot}
+use Rattle.tko_session.specs.SessionState.{SessionState, Snapshot, progress_after, snapshot}
 use Rattle.tko_session.specs.declared.step.Progress.{Progress}
 use Rattle.tko_session.specs.declared.step.Step.{Step}
 use Rattle.tko_session.specs.declared.step.Step.TheVariants as step
@@ -210,6 +211,11 @@ module _ {H L T C : Type 0} {health : HealthGhosts H} {links : LinksGhosts L} {t
   pub on_at : {at : Progress} → said ≡ step.At at → IsOn health links trails clock old said now
       → IsOver health links trails clock at old now
   on_at is it = subst (λ s. IsOnAt health links trails clock old s now) is it.on
+
+  pub on_refused : {fault : TextFault} → said ≡ step.Refused fault
+      → IsOn health links trails clock old said now
+      → IsOver health links trails clock (progress_after fault) old now
+  on_refused is it = subst (λ s. IsOnAt health links trails clock old s now) is it.on
 
   pub on_began : said ≡ step.Began → IsOn health links trails clock old said now
       → IsTaken health links trails clock old now

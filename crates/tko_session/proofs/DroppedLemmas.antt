@@ -20,7 +20,8 @@ use Rattle.tko_reply.proofs.InteractionLemmas.{config_kept}
 use Rattle.tko_session.specs.Acts.{came_to}
 use Rattle.tko_session.specs.Driven.{OutcomeDropped, WasDropped, dropped}
 use Rattle.tko_session.specs.Effects.{effects}
-use Rattle.tko_session.specs.AnswerEnds.{DriveEnds, IsSettled}
+use Rattle.tko_session.specs.Events.{Effects}
+use Rattle.tko_session.specs.AnswerEnds.{DriveEnds, IsSettled, ItemEnds}
 use Rattle.tko_session.specs.SessionState.{SessionState, Snapshot, snapshot}
 use Rattle.tko_session.specs.declared.step.Progress.{Progress}
 use Rattle.tko_session.proofs.DrivenLemmas.{recorded_asked, recorded_gains, sent_to}
@@ -206,6 +207,13 @@ module _ {H L T C : Type 0} (health : HealthGhosts H) (links : LinksGhosts L)
       subst (λ (p : Parts H L T C).
       IsCut health links trails clock old (snapshot new (with_noted attempts p))) (sym is)
       (stop_cut none out exchange unprobed was_dropped attempts_are)
+
+-- an item that was answered, over parts that are these
+pub over_there : {H L T C : Type 0} {does : Effects (Parts H L T C)} {old : Snapshot (Parts H L T C)}
+    (state : SessionState) {parts now : Parts H L T C} {at told : Progress} → told ≡ at
+    → now ≡ parts → ItemEnds does old (Ok at) (snapshot state parts)
+    → ItemEnds does old (Ok told) (snapshot state now)
+over_there state is same ends = rw (is, same) ends
 
 module _ {H L T C : Type 0} {health : HealthGhosts H} {links : LinksGhosts L}
     {trails : TrailsGhosts T} {clock : ClockGhosts C} where

@@ -20,7 +20,7 @@ use Rattle.tko_reply.proofs.InteractionLemmas.{performs}
 use Rattle.tko_session.specs.Driven.{with_request_read}
 use Rattle.tko_session.specs.Effects.{effects}
 use Rattle.tko_session.specs.SessionState.{AnsweredPart, HasAnswered, Replied, SessionState}
-use Rattle.tko_session.specs.SessionState.{Snapshot, snapshot}
+use Rattle.tko_session.specs.SessionState.{Snapshot, progress_after, snapshot}
 use Rattle.tko_session.specs.Turns.{IsRequestCut, IsSessionTurn}
 use Rattle.tko_session.specs.Turns as turn
 use Rattle.tko_session.specs.declared.step.Progress.{Progress}
@@ -87,6 +87,8 @@ module _ {H L T C : Type 0} (health : HealthGhosts H) (links : LinksGhosts L)
   -- how far the next item was answered, where the session said this
   abbrev pub IsOnAt : Snapshot (Parts H L T C) → Step → Snapshot (Parts H L T C) → Type 0
   IsOnAt old (step.At at) now = IsOver health links trails clock at old now
+  IsOnAt old (step.Refused fault) now =
+      IsOver health links trails clock (progress_after fault) old now
   IsOnAt old step.Began now = IsTaken health links trails clock old now
   IsOnAt old (step.Asks clear) now = IsOutFor health links trails clock old clear now
   IsOnAt old (step.Tried trail) now = IsTriedFor health links trails clock old trail now
@@ -178,6 +180,8 @@ module _ {H L T C : Type 0} (health : HealthGhosts H) (links : LinksGhosts L)
       → IsItem old.parts.config old.state true done said now.state
       → IsOn health links trails clock old said now
   on_item (step.At at) idle none room gains it =
+      record { on = over_item idle none room gains it.on }
+  on_item (step.Refused fault) idle none room gains it =
       record { on = over_item idle none room gains it.on }
   on_item {old = old} {now = now} step.Began idle none room gains it =
       let read = it.on in

@@ -109,6 +109,8 @@ pub data IsOverAt (config : Configuration) (old : SessionState) (owes : Bool)
 abbrev pub IsItemAt : Configuration → SessionState → Bool → List Interaction → Step → SessionState
     → Type 0
 IsItemAt config old owes done (step.At at) now = IsOverAt config old owes done at now
+IsItemAt config old owes done (step.Refused fault) now =
+    IsOverAt config old owes done (progress_after fault) now
 IsItemAt config old owes done step.Began now = (done ≡ []) × IsTakenAt old now
 IsItemAt config old owes done (step.Asks clear) now =
     (sent : SentKey) × IsOutAt config old owes done clear sent now

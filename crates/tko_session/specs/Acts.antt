@@ -11,6 +11,7 @@ use Rattle.tko_reply.specs.Standing.{SentKey}
 use Rattle.tko_reply.specs.TrailEvents.{Asked, Tried}
 use Rattle.tko_keys.specs.KeysActs.{KeysAct}
 use Rattle.tko_keys.specs.KeysState.{IsComplete, IsNew, KeysState, reply_in}
+use Rattle.tko_session.specs.declared.step.Progress.{Progress}
 use Rattle.tko_session.specs.declared.step.Progress.TheVariants as progress
 use Rattle.tko_session.specs.declared.step.Step.{Step}
 use Rattle.tko_session.specs.declared.step.Step.TheVariants as step
@@ -18,7 +19,7 @@ use Rattle.tko_session.specs.Clients.{ClientPhase, ClientState, Life, Open, Over
 use Rattle.tko_session.specs.Driven.{AwaitedDropped, AwaitedTaken, WasDropped, WentOn, dropped}
 use Rattle.tko_session.specs.Handing.{HandsOver, replied_by}
 use Rattle.tko_session.specs.Outgoing.{AreOutgoing, sent_from}
-use Rattle.tko_session.specs.SessionState.{SessionState, fed_state}
+use Rattle.tko_session.specs.SessionState.{SessionState, fed_state, progress_after}
 use Rattle.tko_session.specs.Working.{Work}
 use Rattle.tko_session.specs.Working as work
 
@@ -35,6 +36,7 @@ abbrev pub recorded_after : Step → Work → List Interaction
 recorded_after step.Began at = asked_at at
 recorded_after (step.Tried trail) at = Recorded (Tried trail) ∷ []
 recorded_after (step.Asks clear) at = []
+recorded_after (step.Refused fault) at = []
 recorded_after (step.At progress) at = []
 
 -- what is left of that where it could not be recorded: the marks of the attempts at a key
@@ -42,6 +44,7 @@ abbrev pub left_after : Step → List Interaction
 left_after step.Began = []
 left_after (step.Tried trail) = Noted trail ∷ []
 left_after (step.Asks clear) = []
+left_after (step.Refused fault) = []
 left_after (step.At progress) = []
 
 -- something is to be recorded
@@ -49,17 +52,27 @@ abbrev pub IsToRecord : Step → Type 0
 IsToRecord step.Began = Unit {0}
 IsToRecord (step.Tried trail) = Unit {0}
 IsToRecord (step.Asks clear) = ⊥
+IsToRecord (step.Refused fault) = ⊥
 IsToRecord (step.At progress) = ⊥
 
 -- the send that is out came to this
 abbrev pub came_to : SentKey → Result Outcome ExchangeNoMemory → Interaction
 came_to it result = Made (came it.awaited.server it.key.request result)
 
--- how a client stands after a call that said this: `quit` and a line too long end its session
+-- how a client stands once its session is so far: `quit` and a line too long end it
+abbrev pub progress_phase : Progress → ClientPhase
+progress_phase progress.Quit = Over
+progress_phase progress.LineTooLong = Over
+progress_phase progress.More = Open
+progress_phase progress.NeedsInput = Open
+
+-- how a client stands after a call that said this
 abbrev pub phase_after : Step → ClientPhase
-phase_after (step.At progress.Quit) = Over
-phase_after (step.At progress.LineTooLong) = Over
-phase_after _ = Open
+phase_after step.Began = Open
+phase_after (step.Asks clear) = Open
+phase_after (step.Tried trail) = Open
+phase_after (step.Refused fault) = progress_phase (progress_after fault)
+phase_after (step.At at) = progress_phase at
 
 -- A call of a client's session, with what its driver records before the next one: the session went
 -- on, or took what came of its send.

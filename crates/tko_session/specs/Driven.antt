@@ -29,7 +29,7 @@ use Rattle.tko_session.specs.declared.step.Step.{Step}
 use Rattle.tko_session.specs.declared.step.Step.TheVariants as step
 use Rattle.tko_session.specs.Working.{Work}
 use Rattle.tko_session.specs.Working as work
-use Rattle.tko_session.specs.SessionState.{SessionState, progress_after, progress_of}
+use Rattle.tko_session.specs.SessionState.{SessionState, progress_of}
 
 -- what the session says, where a key came so far
 abbrev pub step_of : Stage → Step
@@ -117,7 +117,7 @@ pub data ItemRead (old : SessionState) (said : Step) (new : SessionState) : Type
   none : NeedsMore old.reading → said ≡ step.At progress.NeedsInput → new ≡ old
       → ItemRead old said new
   refused : (fault : TextFault) → Emits old.reading (item.Fault fault) new.reading
-      → said ≡ step.At (progress_after fault)
+      → said ≡ step.Refused fault
       → new ≡ record old { reading = new.reading; outbox = old.outbox ++ fault_text fault }
       → ItemRead old said new
   asked : (it : Request) → Emits old.reading (item.Request it) new.reading

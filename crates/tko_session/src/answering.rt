@@ -13,7 +13,9 @@ ghost use Rattle.tko_reply.specs.declared.parts.Parts.{Parts};
 ghost use Rattle.tko_session.specs.SessionState.{HasAnswered, Snapshot, snapshot};
 ghost use Rattle.tko_session.specs.Working.{key_in};
 
-use crate::observing::{observe_attempts, observe_drop, observe_request, observe_trail};
+use crate::observing::{
+    observe_attempts, observe_drop, observe_end, observe_refusal, observe_request, observe_trail,
+};
 use crate::{Dropped, Parts, Progress, Session, Step, Trails, round};
 use std::alloc::Global;
 use tko_bytes::NoMemory;
@@ -131,7 +133,11 @@ fn drive<R: IoRuntime, H: Health, L: Links, T: Trails, C: Clock>(
     let mut step = session.next(rt, alloc, &mut parts.backend.health, &parts.config)?;
     for _ in rt.forever() {
         match step {
-            Step::At(progress) => return Ok(progress),
+            Step::Refused(fault) => return Ok(observe_refusal(rt, session, parts, fault)),
+            Step::At(progress) => {
+                observe_end(session, parts, progress);
+                return Ok(progress);
+            }
             Step::Asks(clear) => {
                 match send(rt, session, parts, told, clear) {
                     Ok(outcome) => {
@@ -178,5 +184,6 @@ fn send<R: IoRuntime, H: Health, L: Links, T: Trails, C: Clock>(
     let links = &mut parts.backend.links;
     let came = links.exchange(rt, clear, session.request());
     parts.trails.sent(server, links.sends(server));
+    parts.trails.exchanged(server, links.begun(server), &came);
     came
 }

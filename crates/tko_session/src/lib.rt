@@ -10,8 +10,8 @@
 //!   the session asks for over the links, records what it did, tells each attempt as it ends,
 //!   writes the replies to an `Outlet`, and runs the rounds.
 //! - `round`: sends the probes that are due, and tells each as it ends.
-//! - `observe_attempts`, `observe_request`, `observe_trail`, `record_trail`, `observe_drop`: hand
-//!   on what a session did, for a driver that does not wait.
+//! - `observe_attempts`, `observe_request`, `observe_trail`, `record_trail`, `observe_drop`,
+//!   `observe_refusal`, `observe_end`: hand on what a session did, for a driver that does not wait.
 //! - `client_begins`, `client_acts`, `served`: laws. Each client has a life of its own, also where
 //!   one thread serves many over the same parts. `keys_in_turn`: a law for where at most one key of
 //!   a request is under way at a time.
@@ -28,11 +28,14 @@ mod step;
 
 pub use clients::{client_acts, client_begins, keys_in_turn, served};
 pub use fault::SessionFault;
-pub use observing::{observe_attempts, observe_drop, observe_request, observe_trail, record_trail};
+pub use observing::{
+    observe_attempts, observe_drop, observe_end, observe_refusal, observe_request, observe_trail,
+    record_trail,
+};
 pub use rounds::round;
 pub use serving::serve;
 pub use session::Session;
-pub use step::{Progress, Report, Step};
+pub use step::{Progress, Report, Step, progress_after};
 pub use tko_io::{
     Clock, FrozenClock, Inlet, ListedClock, MonotonicClock, Outlet, Piped, Stop, Taped,
 };

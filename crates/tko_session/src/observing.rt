@@ -5,14 +5,17 @@ ghost use Rattle.tko_reply.specs.Interactions.{with_noted};
 ghost use Rattle.tko_reply.specs.TrailEvents.{Asked, Tried};
 ghost use Rattle.tko_reply.specs.declared.asking.OneKey.{OneKey};
 ghost use Rattle.tko_session.specs.Driven.{StaysOrDrops};
+ghost use Rattle.tko_session.specs.SessionState.{progress_after};
 ghost use Rattle.tko_session.specs.Working.{key_in};
 
-use crate::{Dropped, Parts, Session, Trails};
+use crate::{Dropped, Parts, Progress, Session, Trails, progress_after};
 use tko_bytes::NoMemory;
 use tko_io::IoRuntime;
 use tko_route::{Attempt, Trail};
+use tko_text::TextFault;
 
 /// Tells those attempts at a key that were not told yet; the first `told` were.
+#[inline(always)]
 pub fn observe_attempts<R: IoRuntime, T: Trails>(
     rt: &R,
     trails: &mut T,
@@ -28,7 +31,8 @@ pub fn observe_attempts<R: IoRuntime, T: Trails>(
     *told = attempts.len();
 }
 
-/// Records the request that a session read. Where memory runs out, the session drops it.
+/// Records the request that a session read, and notes when. Where memory runs out, the session
+/// drops it.
 pub fn observe_request<R: IoRuntime, T: Trails>(
     rt: &R,
     session: &mut Session,
@@ -41,11 +45,45 @@ pub fn observe_request<R: IoRuntime, T: Trails>(
     ensures session { StaysOrDrops session.old result session.new }
 {
     match trails.request(rt, session.request()) {
-        Ok(()) => Ok(()),
+        Ok(()) => {
+            if let Some(moment) = trails.now() {
+                session.note_read(moment);
+            }
+            Ok(())
+        }
         Err(fault) => {
             session.drop_request();
             Err(Dropped::from(fault))
         }
+    }
+}
+
+/// Tells that a line was refused for this fault. Returns how far the session is then.
+pub fn observe_refusal<R: IoRuntime, H, L, T: Trails, C>(
+    rt: &R,
+    session: &Session,
+    parts: &mut Parts<H, L, T, C>,
+    fault: TextFault,
+) -> Progress
+    ensures progress { result ≡ progress_after fault }
+    ensures same { parts.new ≡ parts.old }
+{
+    parts.trails.refused(rt, fault, session.client());
+    progress_after(fault)
+}
+
+/// Tells that a request was answered wholly, where the session said this and not that it needs more
+/// input.
+pub fn observe_end<H, L, T: Trails, C>(
+    session: &Session,
+    parts: &mut Parts<H, L, T, C>,
+    progress: Progress,
+)
+    ensures { parts.new ≡ parts.old }
+{
+    match progress {
+        Progress::More | Progress::Quit => parts.trails.replied(session.read_moment()),
+        Progress::NeedsInput | Progress::LineTooLong => {}
     }
 }
 

@@ -14,6 +14,7 @@ use crate::step::Step;
 use std::alloc::Global;
 use std::marker::Model;
 use std::mem::replace;
+use std::net::SocketAddr;
 use std::sync::Wait;
 use tko_links::Outcome;
 use tko_pools::Config;
@@ -25,6 +26,7 @@ mod attempts;
 mod handing;
 mod items;
 mod keys;
+mod moments;
 mod output;
 
 /// One client's session: the reader of its bytes, the replies that wait to be written, the number
@@ -42,6 +44,11 @@ pub struct Session {
     begin: usize,
     /// The targets of the key that is asked for, and the room for those of the next one.
     targets: Vec<usize>,
+    /// When the request was read, and when it was last sent, for an observer that times both; and
+    /// where its client is. The model leaves them out.
+    read_moment: u64,
+    sent_moment: u64,
+    client: Option<SocketAddr>,
 }
 
 /// What a session is at.
@@ -104,6 +111,9 @@ impl Session {
             work: SessionWork::Between,
             begin: 0,
             targets: Vec::new(alloc),
+            read_moment: 0,
+            sent_moment: 0,
+            client: None,
         }
     }
 

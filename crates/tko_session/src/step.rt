@@ -1,7 +1,10 @@
 //! What a session is at, and what it asks of who drives it.
+ghost use Rattle.std.specs.Prelude.{◌≡◌};
+ghost use Rattle.tko_session.specs.SessionState.{progress_after};
 
 use tko_model::Clear;
 use tko_route::Trail;
+use tko_text::TextFault;
 
 /// What a session came to, at the end of its input.
 #[derive(Clone, Copy, Debug, PartialEq, Eq)]
@@ -39,6 +42,22 @@ pub enum Step {
     /// These were the attempts at a key, and its response is in the outbox. Their marks are to be
     /// noted, and the trail to be recorded, before `next` goes on to another key or ends the reply.
     Tried(Trail),
-    /// An item was answered, or none is decided.
+    /// A line was refused for this fault, and its answer is in the outbox.
+    Refused(TextFault),
+    /// A request was answered, or no item is decided.
     At(Progress),
+}
+
+/// How far a session is once it answered this fault.
+pub fn progress_after(fault: TextFault) -> Progress
+    ensures { result ≡ progress_after fault }
+{
+    match fault {
+        TextFault::LineTooLong => Progress::LineTooLong,
+        TextFault::UnknownCommand
+        | TextFault::BadLine
+        | TextFault::BadKey
+        | TextFault::BadChunk
+        | TextFault::TooLarge => Progress::More,
+    }
 }

@@ -5,7 +5,6 @@ ghost use Rattle.tko_text.specs.Requests.{fault_text};
 ghost use Rattle.tko_reply.specs.Standing.{whole_of};
 ghost use Rattle.tko_session.specs.Driven.{ItemDropped, ItemRead, with_request_read};
 ghost use Rattle.tko_session.specs.Working.{Between};
-ghost use Rattle.tko_session.specs.SessionState.{progress_after};
 
 use super::{KeyAtWork, KeyWait, Session, SessionWork};
 use crate::step::{Progress, Step};
@@ -41,11 +40,11 @@ impl Session {
     fn answer_fault(&mut self, fault: TextFault) -> Result<Step, NoMemory>
         ensures ok { OnOk result (self.new
             ≡ record self.old { outbox = self.old.outbox ++ fault_text fault }) }
-        ensures step { IfOk result (λ step. step ≡ Step.At (progress_after fault)) }
+        ensures step { IfOk result (λ step. step ≡ Step.Refused fault) }
         ensures err { OnErr result (self.new ≡ self.old) }
     {
         self.outbox.append(fault.reply())?;
-        Ok(Step::At(progress_after(fault)))
+        Ok(Step::Refused(fault))
     }
 
     /// Keeps a request that was read. From here on its round is owed.
@@ -59,19 +58,5 @@ impl Session {
         let wait = KeyWait::Read;
         self.work = SessionWork::Key(KeyAtWork { key, wait });
         Step::Began
-    }
-}
-
-/// How far a session is once it answered this fault.
-fn progress_after(fault: TextFault) -> Progress
-    ensures { result ≡ progress_after fault }
-{
-    match fault {
-        TextFault::LineTooLong => Progress::LineTooLong,
-        TextFault::UnknownCommand
-        | TextFault::BadLine
-        | TextFault::BadKey
-        | TextFault::BadChunk
-        | TextFault::TooLarge => Progress::More,
     }
 }

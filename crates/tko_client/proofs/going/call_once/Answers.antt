@@ -1,6 +1,7 @@
 use Rattle.std.proofs.Common.{◌∙◌, ap, subst, sym}
 use Rattle.std.specs.Prelude.{Some}
 use Rattle.tko_client.specs.Answerings.{awaited_with}
+use Rattle.tko_client.specs.Calls.{IsCalled}
 use Rattle.tko_client.specs.Handings.{HasEndedKeys}
 use Rattle.tko_client.specs.Staying.{no_change}
 use Rattle.tko_client.specs.Steps.{client_ghosts}
@@ -38,12 +39,15 @@ returns-then-may_begin g c =
 
 pub returns-else-is_asking : goal.returns-else-is_asking
 returns-else-is_asking g c =
+    let ghosts = client_ghosts {C = g.row.C.Denot} g.H.Health g.T.Trails in
     let keys = c.get_mut-keys.result.now in
     let is = c.in-Some.is ∙ ap Some (sym c.get_mut-keys.ensures.value) in
     let nobody = not_waiting keys c.is_asking.result c.is_asking.ensures
     c.if-is_asking.false in
-    ended_called (client_ghosts {C = g.row.C.Denot} g.H.Health g.T.Trails) g.H.Health.servers
-    c.end_keys.result c.args.it.now c.end_keys.new.it c.args.parts.now c.requires.ready
+    subst (λ p. IsCalled ghosts g.H.Health.servers c.end_keys-went.result
+    (c.args.it.now, c.args.parts.now) (c.end_keys-went.new.it, p)) (sym c.tell_end.ensures)
+    (ended_called ghosts g.H.Health.servers
+    c.end_keys-went.result c.args.it.now c.end_keys-went.new.it c.args.parts.now c.requires.ready
     (record {
       keys = keys;
       are = is;
@@ -53,9 +57,9 @@ returns-else-is_asking g c =
           c.may_begin.ensures c.in_default.is c.if-is_asking.false c.if-may_begin.false;
       handed = is_handed c.requires.ready is;
     }) (ap (λ k. awaited_with k c.args.it.now.session.work) is ∙ nobody)
-    (subst (λ k. HasEndedKeys c.end_keys.result
-    (record c.args.it.now { keys = k }) c.end_keys.new.it)
-    (sym is) c.end_keys.ensures)
+    (subst (λ k. HasEndedKeys c.end_keys-went.result
+    (record c.args.it.now { keys = k }) c.end_keys-went.new.it)
+    (sym is) c.end_keys-went.ensures))
 
 pub returns-then-is_asking : goal.returns-then-is_asking
 returns-then-is_asking g c =

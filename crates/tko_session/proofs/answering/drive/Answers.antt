@@ -10,8 +10,8 @@ use Rattle.tko_reply.proofs.ReachLemmas.{noted_reach, recorded_reach, told_reach
 use Rattle.tko_session.specs.Driven.{IsAwaiting, IsReadyFor, IsSessionReady, MayGoOn, WasDropped, WentOn}
 use Rattle.tko_session.specs.SessionState.{SessionState, snapshot}
 use Rattle.tko_session.specs.Working.{key_in}
-use Rattle.tko_session.proofs.DrivenLemmas.{on_asks, on_at, on_began, on_tried, past_on, past_told, read_on, same_ok, sent_on_after, taken_on}
-use Rattle.tko_session.proofs.DroppedLemmas.{cut_ends, over_ends, past_lost, read_cut, sent_cut_after, stop_cut_after, taken_cut, unkept_cut, unrecorded_ends}
+use Rattle.tko_session.proofs.DrivenLemmas.{on_asks, on_at, on_began, on_refused, on_tried, past_on, past_told, read_on, same_ok, sent_on_after, taken_on}
+use Rattle.tko_session.proofs.DroppedLemmas.{cut_ends, over_ends, over_there, past_lost, read_cut, sent_cut_after, stop_cut_after, taken_cut, unkept_cut, unrecorded_ends}
 use Rattle.tko_session.proofs.answering.drive.Goals as goal
 
 pub next-requires-clause-ready : goal.next-requires-clause-ready
@@ -44,8 +44,21 @@ loop-init g c =
       told_reach c.requires.reach c.in_ok-step.ensures.servers,
     )
 
+pub returns-in-Refused-clause-ends : goal.returns-in-Refused-clause-ends
+returns-in-Refused-clause-ends g c =
+    let told = c.observe_refusal.ensures in
+    over_there c.loop.session told.progress told.same
+    (over_ends (on_refused c.in-Refused.is c.loop.invariant.0))
+
+pub returns-in-Refused-clause-more : goal.returns-in-Refused-clause-more
+returns-in-Refused-clause-more g c = λ is.
+    (on_refused c.in-Refused.is c.loop.invariant.0).more
+    (sym c.observe_refusal.ensures.progress ∙ same_ok _ _ _ refl is)
+
 pub returns-in-At-clause-ends : goal.returns-in-At-clause-ends
-returns-in-At-clause-ends g c = over_ends (on_at c.in-At.is c.loop.invariant.0)
+returns-in-At-clause-ends g c =
+    over_there c.loop.session refl c.observe_end.ensures
+    (over_ends (on_at c.in-At.is c.loop.invariant.0))
 
 pub returns-in-At-clause-more : goal.returns-in-At-clause-more
 returns-in-At-clause-more g c = λ is. (on_at c.in-At.is c.loop.invariant.0).more (same_ok _ _ _ refl is)

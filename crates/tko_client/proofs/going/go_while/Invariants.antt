@@ -6,7 +6,7 @@ use Rattle.tko_client.specs.Answerings.{IsAnsweringReady, MayCallClient, awaited
 use Rattle.tko_client.specs.Answerings.{client_at}
 use Rattle.tko_client.specs.Steps.{HasStayed, client_ghosts}
 use Rattle.tko_client.proofs.GoingLemmas.{HasGoneWith}
-use Rattle.tko_client.proofs.going.go_on.Given as goal
+use Rattle.tko_client.proofs.going.go_while.Given as goal
 
 abbrev pub invariant-loop-left : goal.invariant-loop-left
 invariant-loop-left g l = record {
