@@ -9,5 +9,6 @@ pub mod Pauses
 pub mod Seats
 pub mod Targets
 pub mod Tellings
+pub mod TurnClocks
 pub mod Waits
 pub mod Walks

@@ -16,13 +16,13 @@ use crate::seats::Seats;
 use crate::targets::seat_token;
 use crate::times::Times;
 use crate::walk::{look_at_all, relieve};
-use crate::{Addresses, Arrival, Held, Host, Load, LoopEntry, LoopLimits, ServerLack};
+use crate::{Addresses, Arrival, Held, Host, Load, LoopEntry, LoopLimits, ServerLack, TurnClock};
 use crossbeam_channel::TryRecvError;
 use mio::Events;
 use std::alloc::{AllocError, Global};
 use std::io;
 use std::time::Duration;
-use tko_io::{Clock, IoRuntime, MonotonicClock};
+use tko_io::IoRuntime;
 use tko_pace::{ClientTime, TurnTimes};
 use tko_port::{SharedParts, Talking};
 use tko_socket::Socket;
@@ -69,7 +69,7 @@ pub struct EventLoop<T, P, K> {
     buffer: Vec<u8>,
     seats: Seats,
     times: Times,
-    clock: MonotonicClock,
+    clock: TurnClock,
     limits: LoopLimits,
     turns: TurnTimes,
     noted: NotedEvents,
@@ -123,7 +123,7 @@ impl<P: Drop, T: Talking<P> + Drop, K: Drop> EventLoop<T, P, K> {
                 buffer,
                 seats: Seats::new(alloc),
                 times: Times::new(alloc),
-                clock: MonotonicClock::new(rt),
+                clock: TurnClock::new(rt),
                 limits,
                 turns: TurnTimes::new(limits.response),
                 noted: NotedEvents::none(),
@@ -194,7 +194,8 @@ impl<P, T: Talking<P> + Drop, K: Drop> EventLoop<T, P, K> {
     {
         let pause = Duration::from_millis(self.pause);
         self.entry.poll.poll(&mut self.events, Some(pause))?;
-        let shown = self.clock.next(rt);
+        let shown = self.clock.read(rt);
+        host.began(&mut self.worker, &self.clock);
         let is_noted = self.begin(rt, alloc);
         self.turns.begin(shown, self.pause, is_noted);
         self.moment = self.turns.moments().began();
@@ -312,9 +313,13 @@ impl<P, T: Talking<P> + Drop, K: Drop> EventLoop<T, P, K> {
         self.times.make_room(self.worker.clients.numbers()).ok()?;
         let seat = self.seats.next().ok()?;
         let token = seat_token(self.servers.len(), seat)?;
-        let Arrival { stream, ticket } = arrival;
+        let Arrival {
+            stream,
+            client,
+            ticket,
+        } = arrival;
         let socket = Socket::accepted(self.entry.poll.registry(), token, stream).ok()?;
-        let talk = host.greet(self.worker.clients.parts()).ok()?;
+        let talk = host.greet(self.worker.clients.parts(), client).ok()?;
         let port = Held::client(socket, ticket);
         let number = self.worker.clients.open(alloc, port, talk).ok()?;
         self.seats.take(number);
@@ -373,7 +378,7 @@ impl<P, T: Talking<P> + Drop, K: Drop> EventLoop<T, P, K> {
         self.worker.serve(alloc, buffer, moments);
         host.round(alloc, &mut self.worker, self.moment, moments.due());
         let mut ahead = self.worker.finish(moments.judged());
-        self.turns.end(self.clock.next(rt));
+        self.turns.end(self.clock.read(rt));
         ahead.rests &= intake != Intake::More && self.turns.is_noted();
         let next = self.turns.next();
         self.pause = pause_after(

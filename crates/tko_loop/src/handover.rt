@@ -6,7 +6,7 @@ use mio::{Poll, Waker};
 use std::alloc::Global;
 use std::io;
 use std::io::ErrorKind;
-use std::net::TcpStream;
+use std::net::{SocketAddr, TcpStream};
 use std::sync::{Arc, Wait};
 use tko_io::IoRuntime;
 
@@ -14,6 +14,8 @@ use tko_io::IoRuntime;
 #[derive(Drop)]
 pub struct Arrival<K> {
     pub stream: TcpStream,
+    /// Its address.
+    pub client: SocketAddr,
     /// It is dropped once the client's socket was closed.
     pub ticket: K,
 }

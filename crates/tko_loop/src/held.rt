@@ -3,6 +3,7 @@ ghost use Rattle.std.specs.Prelude.{◌≡◌};
 ghost use Rattle.tko_socket.specs.Sockets.{port_of};
 ghost use Rattle.tko_loop.specs.Held.{held_port};
 
+use std::net::SocketAddr;
 use tko_port::{Port, Read};
 use tko_socket::{Connecting, Socket};
 
@@ -71,5 +72,13 @@ impl<K> Port for Held<K> {
 
     fn write(&mut self, text: &[u8]) -> Option<usize> {
         self.socket.write(text)
+    }
+
+    fn is_binary(&self) -> bool {
+        self.socket.is_binary()
+    }
+
+    fn remote(&self) -> Option<SocketAddr> {
+        self.socket.remote()
     }
 }

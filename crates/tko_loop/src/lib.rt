@@ -32,6 +32,7 @@ mod pause;
 mod seats;
 mod targets;
 mod times;
+mod turn_clock;
 mod walk;
 
 pub use addresses::Addresses;
@@ -42,3 +43,4 @@ pub use held::Held;
 pub use host::Host;
 pub use limits::LoopLimits;
 pub use load::Load;
+pub use turn_clock::TurnClock;

@@ -1,3 +1,4 @@
+pub mod FirstBytes
 pub mod Guests
 pub mod Lives
 pub mod Peers

@@ -7,7 +7,7 @@ use Rattle.tko_pipe.specs.declared.link.Link.{Link}
 use Rattle.tko_pipe.specs.declared.link.Link.TheVariants.{Connected, Connecting}
 use Rattle.tko_pipe.specs.declared.waiter.Waiter.{Waiter}
 use Rattle.tko_pipe.specs.Ends.{ExpireEnds, GotEnds}
-use Rattle.tko_pipe.specs.Pipes.{IsConnected, IsShut, IsWritten, is_due_by, late_at, shutting}
+use Rattle.tko_pipe.specs.Pipes.{IsConnected, IsShut, IsWritten, PipeState, is_due_by, late_at, shutting}
 use Rattle.tko_mux.specs.Lines.{IsOnLive, IsOnPipe, LineState, first_on, link_on, unwritten_on}
 use Rattle.tko_mux.specs.Linking.{AreLinked}
 use Rattle.tko_mux.specs.Muxes.{HasNoneLeaving, IsOnLine, MuxState, line_at}
@@ -61,6 +61,19 @@ due_of (Some line) = option_and_then late_at line.pipe
 
 abbrev pub due_at : List LineState → ℕ → Option ℕ
 due_at lines server = due_of (slice_get lines server)
+
+-- how many requests wait on a connection for their responses, or to be sent
+abbrev pub in_flight_on : Option PipeState → ℕ
+in_flight_on None = 0
+in_flight_on (Some pipe) = length pipe.waiters
+
+-- how many wait for a response of a server, or to be sent to it
+abbrev pub in_flight_of : Option LineState → ℕ
+in_flight_of None = 0
+in_flight_of (Some line) = in_flight_on line.pipe
+
+abbrev pub in_flight_at : List LineState → ℕ → ℕ
+in_flight_at lines server = in_flight_of (slice_get lines server)
 
 -- the first response of a server is late at this moment
 abbrev pub is_first_late : Option LineState → ℕ → Bool

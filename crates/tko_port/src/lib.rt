@@ -2,6 +2,8 @@
 //! no clock and no handle here.
 //!
 //! - `Port`: a socket that does not wait, with what may be done on it; `Read`: what a read gave.
+//! - `FirstByte`: what is known of the first byte of a client's connection, by which one of the
+//!   binary protocol is closed.
 //! - `Talking`: a client's session as its port sees it; `SessionStage`: how far it is; `Tally`:
 //!   what was done with it.
 //! - `settle`: serves a client until nothing can be done for it before its next event; `Settled`:
@@ -13,6 +15,7 @@
 //!   port; beside them what is asked of that connection.
 #![tactic(auto)]
 
+mod first_byte;
 mod guest;
 mod peer;
 mod port;
@@ -20,11 +23,13 @@ mod settling;
 mod talking;
 mod wire;
 
+pub use first_byte::FirstByte;
 pub use guest::{ClientEvent, Guest, Presence, SharedParts, Turned};
 pub use peer::Peer;
 pub use port::{Port, Read};
 pub use settling::{End, Settled, settle};
 pub use talking::{SessionStage, Talking, Tally};
 pub use wire::{
-    first_due, has_unwritten, is_connected, is_connecting, is_late, is_open, read_wire, write_wire,
+    first_due, has_unwritten, in_flight, is_connected, is_connecting, is_late, is_open, read_wire,
+    write_wire,
 };

@@ -1,5 +1,7 @@
 //! A socket that does not wait.
 
+use std::net::SocketAddr;
+
 /// What a read gave.
 #[derive(Clone, Copy, Debug, PartialEq, Eq)]
 pub enum Read {
@@ -50,4 +52,15 @@ pub trait Port {
     fn write(&mut self, text: &[u8]) -> Option<usize>
         requires { (port self.old).writable ≡ true }
         ensures { WriteGives (port self.old) text.now result (port self.new) };
+
+    /// Whether the other side was found to speak the binary protocol: then none of its bytes was
+    /// given, and a read said that it had ended.
+    fn is_binary(&self) -> bool {
+        false
+    }
+
+    /// The address of the other side, where the system tells it.
+    fn remote(&self) -> Option<SocketAddr> {
+        None
+    }
 }

@@ -4,7 +4,7 @@ ghost use Rattle.std.specs.Bool.{OnFalse, OnTrue};
 ghost use Rattle.tko_pipe.specs.Pipes.{IsCause, PipeState};
 ghost use Rattle.tko_mux.specs.Linking.{AreLinked};
 ghost use Rattle.tko_mux.specs.Muxes.{line_at};
-ghost use Rattle.tko_port.specs.Wires.{AreGivenUp, CannotWriteTo, FindsNothing, HasCome, HasRead, HasWritten, IsConnectionMade, IsNotWritable, IsOpen, KeepsSessions, LeavesPort, OtherLines, ReadsFromPort, WritesPiece, due_at, is_first_late, link_at, unwritten_at};
+ghost use Rattle.tko_port.specs.Wires.{AreGivenUp, CannotWriteTo, FindsNothing, HasCome, HasRead, HasWritten, IsConnectionMade, IsNotWritable, IsOpen, KeepsSessions, LeavesPort, OtherLines, ReadsFromPort, WritesPiece, due_at, in_flight_at, is_first_late, link_at, unwritten_at};
 
 use crate::{Port, Read};
 use tko_mux::{Asking, Mux};
@@ -81,6 +81,19 @@ pub fn first_due<P, S: Asking<P> + Drop>(mux: &Mux<S, P>, server: usize) -> Opti
     let line = mux.line(server)?;
     let pipe = line.pipe()?;
     pipe.late_at()
+}
+
+/// How many requests wait for a response of a server, or to be sent to it.
+pub fn in_flight<P, S: Asking<P> + Drop>(mux: &Mux<S, P>, server: usize) -> usize
+    ensures { result ≡ in_flight_at mux.now.lines server }
+{
+    let Some(line) = mux.line(server) else {
+        return 0;
+    };
+    match line.pipe() {
+        Some(pipe) => pipe.in_flight(),
+        None => 0,
+    }
 }
 
 /// What is to be written to a server.

@@ -1,7 +1,8 @@
 //! A connection that does not wait.
 ghost use Rattle.std.specs.Prelude.{◌≡◌, IfOk};
+ghost use Rattle.tko_port.specs.FirstBytes.{IsTextGiven};
 ghost use Rattle.tko_port.specs.Ports.{ready_port};
-ghost use Rattle.tko_socket.specs.Sockets.{port_of, unready};
+ghost use Rattle.tko_socket.specs.Sockets.{IsPieceTaken, port_of, unready};
 ghost use Rattle.tko_socket.specs.Failures.{failed_read, failed_write};
 
 use crate::{Trace, calls};
@@ -10,7 +11,7 @@ use mio::{Interest, Registry, Token};
 use std::io::ErrorKind;
 use std::net::{Net, SocketAddr};
 use std::{io, net};
-use tko_port::{Port, Read};
+use tko_port::{FirstByte, Port, Read};
 
 /// How far a connection is that is being made.
 #[derive(Clone, Copy, Debug, PartialEq, Eq)]
@@ -32,18 +33,24 @@ pub struct Socket {
     /// An event said that the other side sends no more: the end may wait behind the bytes that a
     /// read gives, and no event tells of it again.
     ended: bool,
+    /// A client whose first byte is of the binary protocol is closed before any of its bytes is
+    /// given.
+    first: FirstByte,
     read: Trace,
     written: Trace,
 }
 
 impl Socket {
     /// A connection that was accepted. It may be ready for both ways, which the first calls find
-    /// out.
+    /// out. Its first byte is looked at.
     pub fn accepted(registry: &Registry, token: Token, stream: net::TcpStream) -> io::Result<Socket>
-        ensures { IfOk result (λ socket. port_of socket ≡ ready_port) }
+        ensures port { IfOk result (λ socket. port_of socket ≡ ready_port) }
+        ensures first { IfOk result (λ socket. socket.first ≡ FirstByte.Awaited) }
     {
         stream.set_nonblocking(true)?;
-        registered(registry, token, TcpStream::from_std(stream), true)
+        let mut socket = registered(registry, token, TcpStream::from_std(stream), true)?;
+        socket.first = FirstByte::Awaited;
+        Ok(socket)
     }
 
     /// Begins to connect, and does not wait. An event tells when the connection was made, or
@@ -57,6 +64,22 @@ impl Socket {
         ensures { IfOk result (λ socket. port_of socket ≡ unready) }
     {
         registered(registry, token, TcpStream::connect(net, address)?, false)
+    }
+
+    /// This piece came. It is given, unless the client speaks the binary protocol: then the input
+    /// ended, as far as anyone is told.
+    fn came(&mut self, piece: &[u8], is_full: bool) -> Read
+        ensures first { IsTextGiven self.old.first self.old.read
+            → IsTextGiven self.new.first self.new.read }
+        ensures came { IsPieceTaken (port_of self.old) piece.now is_full result (port_of self.new) }
+    {
+        if !self.first.look(piece) {
+            self.readable = false;
+            return Read::Ended;
+        }
+        self.readable = self.ended || is_full;
+        self.read.add(piece);
+        Read::Bytes(piece.len())
     }
 
     /// How far the connection is, after an event.
@@ -90,6 +113,7 @@ fn registered(
         readable: is_ready,
         writable: is_ready,
         ended: false,
+        first: FirstByte::Any,
         read: Trace::new(),
         written: Trace::new(),
     })
@@ -104,6 +128,8 @@ fn not_connected(kind: ErrorKind) -> Connecting {
 }
 
 impl Port for Socket {
+    ghost use Rattle.tko_port.specs.FirstBytes.{IsTextGiven};
+    ghost use Rattle.tko_port.specs.Ports.{ReadGives};
     ghost use Rattle.tko_socket.specs.Sockets.{port_of};
 
     ghost port = { port_of };
@@ -129,22 +155,33 @@ impl Port for Socket {
         self.readable = true;
     }
 
-    fn read(&mut self, buffer: &mut [u8]) -> Read {
+    fn read(&mut self, buffer: &mut [u8]) -> Read
+        ensures gives { ReadGives (port_of self.old) buffer.new result (port_of self.new) }
+        ensures first { IsTextGiven self.old.first self.old.read
+            → IsTextGiven self.new.first self.new.read }
+    {
         match calls::read(&mut self.stream, buffer) {
             Ok(0) => {
                 self.readable = false;
                 Read::Ended
             }
             Ok(count) => {
-                self.readable = self.ended || count == buffer.len();
-                self.read.add(&buffer[..count]);
-                Read::Bytes(count)
+                let is_full = count == buffer.len();
+                self.came(&buffer[..count], is_full)
             }
             Err(error) => {
                 self.readable = false;
                 failed_read(error.kind())
             }
         }
+    }
+
+    fn is_binary(&self) -> bool {
+        self.first.is_binary()
+    }
+
+    fn remote(&self) -> Option<SocketAddr> {
+        self.stream.peer_addr().ok()
     }
 
     fn write(&mut self, text: &[u8]) -> Option<usize> {

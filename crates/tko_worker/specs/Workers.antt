@@ -31,8 +31,8 @@ use Rattle.tko_worker.specs.Counts.{MuxAndEnds, counted_end}
 use Rattle.tko_worker.specs.Numbers.{IsAmong, IsIn}
 
 -- the clients and their servers; the numbers of clients that are to be served in this turn; those
--- that were put off, which are served after them, a few in each turn; and how many ended since their
--- ends were taken
+-- that were put off, which are served after them, a few in each turn; and how many ended since
+-- their ends were taken
 pub record WorkerState (L T P : Type 0) : Type 0 where
   pub mux : MuxState (Guest L T) (SharedParts P)
   pub touched : List ℕ

@@ -9,7 +9,7 @@ ghost use Rattle.tko_worker.specs.Changes.{OnlyLinesChange};
 ghost use Rattle.tko_worker.specs.Connections.{has_socket};
 ghost use Rattle.tko_worker.specs.Taking.{AreTaken, IsTurnServed, is_flag_set};
 ghost use Rattle.tko_worker.specs.Turns.{AreFinished, IsAhead, IsNothingLeft, IsWanted, OtherPeers, probed_at, socket_at};
-ghost use Rattle.tko_port.specs.Wires.{CannotWriteTo, HasConnected, HasFailed, IsOpen, OtherLines, due_at, link_at};
+ghost use Rattle.tko_port.specs.Wires.{CannotWriteTo, HasConnected, HasFailed, IsOpen, OtherLines, due_at, in_flight_at, link_at};
 ghost use Rattle.tko_worker.specs.Workers.{IsInOrder};
 
 use crate::resting::{is_quiet, is_wanted, none_is_left};
@@ -19,7 +19,9 @@ use tko_bytes::NoMemory;
 use tko_mux::{Asking, Came};
 use tko_pace::TurnMoments;
 use tko_pipe::{Link, ShutCause};
-use tko_port::{ClientEvent, Guest, Peer, Port, SharedParts, Talking, first_due, is_connecting};
+use tko_port::{
+    ClientEvent, Guest, Peer, Port, SharedParts, Talking, first_due, in_flight, is_connecting,
+};
 
 /// The clients of a worker, and the sockets to its servers. In a turn of events what came is noted,
 /// `serve` does what can be done for the clients, and `finish` writes to the servers.
@@ -194,6 +196,13 @@ impl<P, L: Port + Drop, T: Talking<P> + Drop> EventWorker<L, T, P> {
         ensures { result ≡ due_at self.now.clients.mux.lines server }
     {
         first_due(&self.clients.mux, server)
+    }
+
+    /// How many requests wait for a response of a server, or to be sent to it.
+    pub fn in_flight(&self, server: usize) -> usize
+        ensures { result ≡ in_flight_at self.now.clients.mux.lines server }
+    {
+        in_flight(&self.clients.mux, server)
     }
 
     /// The connection to a server could not be made on this socket, which is closed. Those that

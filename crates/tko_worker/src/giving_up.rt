@@ -99,7 +99,8 @@ impl<P, L: Port + Drop, T: Talking<P> + Drop> Worker<L, T, P> {
     }
 
     /// The next of those that wait for a server gives up at `now`, if it is to. Its session takes
-    /// that as a request that was aborted, and is served in this turn; what it asks is due at `due`.
+    /// that as a request that was aborted, and is served in this turn; what it asks is due at
+    /// `due`.
     fn give_up(
         &mut self,
         alloc: Global,

@@ -20,7 +20,7 @@ mod serving;
 mod turns;
 mod worker;
 
-pub use ends::EndCounts;
+pub use ends::{BinaryClients, EndCounts};
 pub use event_worker::EventWorker;
 pub use law::{acts_compose, clients_act};
 pub use resting::{Outlook, earlier};

@@ -8,7 +8,7 @@ ghost use Rattle.tko_worker.specs.Servers.{ListsReached};
 ghost use Rattle.tko_worker.specs.Serving.{OnceEnds, ServeCounts, SpentEnds};
 ghost use Rattle.tko_worker.specs.Workers.{DropEnds, IsHere, IsListedFor, IsNotedToServe, IsNumberServed, ListEnds, OthersStay, OthersStayFor, RestAt};
 
-use crate::EndCounts;
+use crate::ends::{CountedEnds, Protocol};
 use crate::numbers::Numbers;
 use std::alloc::Global;
 use tko_mux::{Asking, Client, Delivery, Mux};
@@ -35,7 +35,7 @@ pub(crate) enum AfterServing {
 pub(crate) fn serve<P, L: Port + Drop, T: Talking<P> + Drop>(
     mux: &mut Mux<Guest<L, T>, SharedParts<P>>,
     spent: &mut Numbers,
-    ends: &mut EndCounts,
+    ends: &mut CountedEnds,
     alloc: Global,
     number: usize,
     due: u64,
@@ -64,7 +64,7 @@ pub(crate) fn list_reached<P, L: Port + Drop, T: Talking<P> + Drop>(
     mux: &mut Mux<Guest<L, T>, SharedParts<P>>,
     off: &Numbers,
     numbers: &mut Numbers,
-    ends: &mut EndCounts,
+    ends: &mut CountedEnds,
     alloc: Global,
     delivery: &Delivery<Turned>,
 )
@@ -90,7 +90,7 @@ pub(crate) fn list<P, L: Port + Drop, T: Talking<P> + Drop>(
     mux: &mut Mux<Guest<L, T>, SharedParts<P>>,
     off: &Numbers,
     numbers: &mut Numbers,
-    ends: &mut EndCounts,
+    ends: &mut CountedEnds,
     alloc: Global,
     number: usize,
 )
@@ -116,7 +116,7 @@ pub(crate) fn list<P, L: Port + Drop, T: Talking<P> + Drop>(
 fn put<P, L: Port + Drop, T: Talking<P> + Drop>(
     mux: &mut Mux<Guest<L, T>, SharedParts<P>>,
     numbers: &mut Numbers,
-    ends: &mut EndCounts,
+    ends: &mut CountedEnds,
     alloc: Global,
     number: usize,
 )
@@ -140,7 +140,7 @@ fn put<P, L: Port + Drop, T: Talking<P> + Drop>(
 /// stays where it rests, and else it is to leave so.
 fn drop_client<P, L: Port + Drop, T: Talking<P> + Drop>(
     mux: &mut Mux<Guest<L, T>, SharedParts<P>>,
-    ends: &mut EndCounts,
+    ends: &mut CountedEnds,
     alloc: Global,
     number: usize,
     why: End,
@@ -161,8 +161,9 @@ fn drop_client<P, L: Port + Drop, T: Talking<P> + Drop>(
         }
         return;
     };
+    let protocol = Protocol::of(&guest.port);
     drop(guest);
-    ends.count(why);
+    ends.count(why, protocol);
 }
 
 /// Whether the client of a number, of which a request is under way, waits for what comes of that,
@@ -197,7 +198,7 @@ fn waits<P, T: Talking<P>>(talk: &T) -> bool
 /// to be served again later. If it ended, it leaves.
 fn is_spent<P, L: Port + Drop, T: Talking<P> + Drop>(
     mux: &mut Mux<Guest<L, T>, SharedParts<P>>,
-    ends: &mut EndCounts,
+    ends: &mut CountedEnds,
     alloc: Global,
     number: usize,
     due: u64,
@@ -233,7 +234,7 @@ fn is_spent<P, L: Port + Drop, T: Talking<P> + Drop>(
 /// Serves a client once. If it ended, it leaves.
 fn serve_once<P, L: Port + Drop, T: Talking<P> + Drop>(
     mux: &mut Mux<Guest<L, T>, SharedParts<P>>,
-    ends: &mut EndCounts,
+    ends: &mut CountedEnds,
     alloc: Global,
     number: usize,
     due: u64,

@@ -9,12 +9,12 @@ ghost use Rattle.tko_worker.specs.Acts.{HasActed};
 ghost use Rattle.tko_worker.specs.Counts.{no_ends};
 ghost use Rattle.tko_worker.specs.Workers.{IsClientOpened, IsInOrder, tally_at};
 
-use crate::EndCounts;
+use crate::ends::CountedEnds;
 use crate::numbers::Numbers;
 use crate::serving::list;
+use crate::{BinaryClients, EndCounts};
 use std::alloc::Global;
 use std::marker::Model;
-use std::mem::replace;
 use tko_bytes::NoMemory;
 use tko_mux::{Asking, Mux};
 use tko_port::{Guest, Port, Presence, SharedParts, Talking, Tally};
@@ -29,7 +29,7 @@ pub struct Worker<L, T, P> {
     /// the others, a few in each turn.
     pub(crate) spent: Numbers,
     /// The clients that ended since their ends were taken.
-    pub(crate) ends: EndCounts,
+    pub(crate) ends: CountedEnds,
 }
 
 impl<L, T, P> Model for Worker<L, T, P> {
@@ -65,7 +65,7 @@ impl<P: Drop, L: Port + Drop, T: Talking<P> + Drop> Worker<L, T, P> {
                 mux,
                 touched: Numbers::new(alloc),
                 spent: Numbers::new(alloc),
-                ends: EndCounts::none(),
+                ends: CountedEnds::none(),
             }),
             Err(back) => Err(back),
         }
@@ -170,7 +170,16 @@ impl<P, L: Port + Drop, T: Talking<P> + Drop> Worker<L, T, P> {
         ensures taken { result ≡ self.old.ends }
         ensures cleared { self.new ≡ record self.old { ends = no_ends } }
     {
-        replace(&mut self.ends, EndCounts::none())
+        self.ends.take()
+    }
+
+    /// Those of the clients that ended since this was last called that spoke the binary protocol,
+    /// if there are any: each was closed before any of its bytes came to its session. Contracts do
+    /// not see them.
+    pub fn take_binary(&mut self) -> Option<BinaryClients>
+        ensures { self.new ≡ self.old }
+    {
+        self.ends.take_binary()
     }
 
     /// How many clients were put off. Where there is one, the next turn waits for no event.
@@ -189,8 +198,9 @@ impl<P, L: Port + Drop, T: Talking<P> + Drop> Worker<L, T, P> {
             mux,
             touched,
             spent,
-            ends: _,
+            ends,
         } = self;
+        drop(ends);
         drop(touched);
         drop(spent);
         let SharedParts { parts, buffer } = mux.into_parts();
