@@ -1,3 +1,4 @@
+pub mod Health
 pub mod Loads
 pub mod Marks
 pub mod Meters
@@ -5,3 +6,8 @@ pub mod Metrics
 pub mod Pages
 pub mod Readings
 pub mod Samples
+pub mod ServerLoads
+pub mod Statuses
+pub mod Times
+pub mod TimesTexts
+pub mod Traffic

@@ -1,8 +1,8 @@
 -- Numbers that stand for marks, since when a mark is there, and the ends of names in a list of the
 -- system.
 use Rattle.std.specs.Prelude.{ℕ, ◌==◌, Bool, true, false}
-use Rattle.tko_metrics.specs.declared.worker_meter.Marking.{Marking}
-use Rattle.tko_metrics.specs.declared.worker_meter.Marking.TheVariants.{Up, Soft, Hard}
+use Rattle.tko_metrics.specs.declared.marking.Marking.{Marking}
+use Rattle.tko_metrics.specs.declared.marking.Marking.TheVariants.{Up, Soft, Hard}
 
 -- the number that stands for a mark
 abbrev pub mark_number : Marking → ℕ

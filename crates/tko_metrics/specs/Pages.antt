@@ -5,13 +5,22 @@ use Rattle.tko_metrics.specs.declared.build.Build.{Build}
 use Rattle.tko_metrics.specs.declared.metrics.Metric.{Metric}
 use Rattle.tko_metrics.specs.declared.metrics.Metric.TheVariants as metric
 use Rattle.tko_metrics.specs.declared.page.Page.{Page}
+use Rattle.tko_metrics.specs.declared.reading.ServerNumber.{ServerNumber}
+use Rattle.tko_metrics.specs.declared.reading.ServerNumber.TheVariants.{Sends, Probes, Ended, InFlight}
 use Rattle.tko_metrics.specs.declared.reading.Shown.{Shown}
 use Rattle.tko_metrics.specs.declared.reading.Sums.{Sums}
+use Rattle.tko_metrics.specs.declared.sent_end.SentEnd.{SentEnd}
+use Rattle.tko_metrics.specs.declared.sent_end.SentEnd.TheVariants as end
+use Rattle.tko_metrics.specs.declared.timed.TimedServer.{TimedServer}
 use Rattle.tko_metrics.specs.declared.worker_meter.Ending.TheVariants as ending
-use Rattle.tko_metrics.specs.declared.worker_meter.Marking.{Marking}
-use Rattle.tko_metrics.specs.declared.worker_meter.Marking.TheVariants.{Up, Soft, Hard}
+use Rattle.tko_metrics.specs.declared.workers.WorkerReading.{WorkerReading}
+use Rattle.tko_metrics.specs.declared.marking.Marking.{Marking}
+use Rattle.tko_metrics.specs.declared.marking.Marking.TheVariants.{Up, Soft, Hard}
 use Rattle.tko_metrics.specs.Loads.{AreWorkersIf, known_loads}
-use Rattle.tko_metrics.specs.Samples.{build_sample, head_of, kind_sample, mark_sample, moment_sample, server_sample, single}
+use Rattle.tko_metrics.specs.Samples.{build_sample, head_of, kind_sample, moment_sample, part_sample, server_sample, single, words_text}
+use Rattle.tko_metrics.specs.Readings.{server_number}
+use Rattle.tko_metrics.specs.TimesTexts.{times_text}
+use Rattle.tko_metrics.specs.Traffic.{IsOfCommands, IsOfRefusals, end_word}
 
 -- the clients, and the sessions that have ended
 unfoldable pub clients_text : Page → List ℕ
@@ -33,28 +42,63 @@ requests_text sums =
     ++ single metric.Skips sums.skips ++ single metric.Replies sums.replies
     ++ single metric.NoServer sums.no_server
 
+-- what clients asked, and how that went
+unfoldable pub traffic_text : Page → List ℕ
+traffic_text page =
+    words_text metric.Refused (codes "kind") page.refusals.items
+    ++ words_text metric.Commands (codes "command") page.commands.items
+    ++ single metric.Hits page.sums.hits ++ single metric.Misses page.sums.misses
+    ++ head_of metric.RequestTimes ++ times_text metric.RequestTimes None page.request_times
+
 -- the probes of all servers
 abbrev pub probes_in_all : List Shown → ℕ
 probes_in_all servers = capped (sum_by (λ server. server.reading.probes) servers)
 
 unfoldable pub counts_text : Page → List ℕ
 counts_text page =
-    clients_text page ++ faults_text page.sums ++ requests_text page.sums
+    clients_text page ++ faults_text page.sums ++ requests_text page.sums ++ traffic_text page
     ++ single metric.Probes (probes_in_all page.servers.items)
 
--- what was sent to a server
-abbrev pub sends_sample : Shown → List ℕ
-sends_sample server = server_sample metric.ServerSends server.address.now server.reading.sends
+-- a number of a server
+abbrev pub number_sample : Metric → ServerNumber → Shown → List ℕ
+number_sample metric which server =
+    server_sample metric server.address.now (server_number which server.reading)
 
-unfoldable pub sends_text : List Shown → List ℕ
-sends_text servers = head_of metric.ServerSends ++ flat_map sends_sample servers
+unfoldable pub server_numbers_text : Metric → ServerNumber → List Shown → List ℕ
+server_numbers_text metric which servers =
+    head_of metric ++ flat_map (number_sample metric which) servers
 
--- the probes of a server
-abbrev pub probes_sample : Shown → List ℕ
-probes_sample server = server_sample metric.ServerProbes server.address.now server.reading.probes
+-- how often what was sent to a server came to this
+abbrev pub outcome_sample : Shown → SentEnd → List ℕ
+outcome_sample server end =
+    part_sample metric.ServerOutcomes server.address.now (codes "outcome") (end_word end)
+    (server_number (Ended end) server.reading)
 
-unfoldable pub probes_text : List Shown → List ℕ
-probes_text servers = head_of metric.ServerProbes ++ flat_map probes_sample servers
+-- what came of what was sent to a server
+unfoldable pub outcome_samples : Shown → List ℕ
+outcome_samples server =
+    outcome_sample server end.Reply ++ outcome_sample server end.Timeout
+    ++ outcome_sample server end.Refused ++ outcome_sample server end.Broken
+    ++ outcome_sample server end.Aborted
+
+unfoldable pub outcomes_text : List Shown → List ℕ
+outcomes_text servers = head_of metric.ServerOutcomes ++ flat_map outcome_samples servers
+
+-- how many requests are in flight to each server; workers that are not event-driven tell none
+abbrev pub known_in_flight : Option (List WorkerReading) → List Shown → List ℕ
+known_in_flight (Some workers) servers = server_numbers_text metric.InFlight InFlight servers
+known_in_flight None servers = []
+
+abbrev pub in_flight_text : Page → List ℕ
+in_flight_text page =
+    known_in_flight (option_map (λ workers. workers.items) page.workers) page.servers.items
+
+-- how long a server took to answer
+abbrev pub times_of : TimedServer → List ℕ
+times_of server = times_text metric.ResponseTimes (Some server.address.now) server.times
+
+unfoldable pub timed_text : List TimedServer → List ℕ
+timed_text servers = head_of metric.ResponseTimes ++ flat_map times_of servers
 
 abbrev pub soft_flag : Marking → ℕ
 soft_flag Up = 0
@@ -69,9 +113,9 @@ hard_flag Hard = 1
 -- whether a server has each of the two marks
 unfoldable pub mark_samples : Shown → List ℕ
 mark_samples server =
-    mark_sample metric.ServerMarked server.address.now (codes "soft")
+    part_sample metric.ServerMarked server.address.now (codes "mark") (codes "soft")
     (soft_flag server.reading.mark)
-    ++ mark_sample metric.ServerMarked server.address.now (codes "hard")
+    ++ part_sample metric.ServerMarked server.address.now (codes "mark") (codes "hard")
     (hard_flag server.reading.mark)
 
 unfoldable pub marks_text : List Shown → List ℕ
@@ -91,7 +135,9 @@ moments_text servers = head_of metric.MarkedSince ++ flat_map mark_moment_of ser
 
 unfoldable pub servers_text : Page → List ℕ
 servers_text page =
-    sends_text page.servers.items ++ probes_text page.servers.items
+    server_numbers_text metric.ServerSends Sends page.servers.items
+    ++ server_numbers_text metric.ServerProbes Probes page.servers.items
+    ++ outcomes_text page.servers.items ++ in_flight_text page ++ timed_text page.timed.items
     ++ marks_text page.servers.items ++ moments_text page.servers.items
 
 -- what the workers serve, if they are event-driven
@@ -125,5 +171,8 @@ pub record IsPage (addresses : List (List ℕ)) (run : Build) (count : ℕ) (tex
     pub page : Page
     pub of_build : page.build ≡ run
     pub servers : map (λ server. server.address.now) page.servers.items ≡ addresses
+    pub timed : map (λ server. server.address.now) page.timed.items ≡ addresses
+    pub refusals : IsOfRefusals page.refusals.items
+    pub commands : IsOfCommands page.commands.items
     pub workers : AreWorkersIf count (option_map (λ workers. workers.items) page.workers)
     pub text_is : text ≡ page_text page

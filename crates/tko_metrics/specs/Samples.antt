@@ -3,6 +3,7 @@ use Rattle.std.specs.Prelude.{ℕ, ◌==◌, ◌||◌, ◌/◌, ◌%◌, if◌th
 use Rattle.tko_metrics.specs.declared.build.Build.{Build}
 use Rattle.tko_metrics.specs.declared.metrics.Metric.{Metric}
 use Rattle.tko_metrics.specs.declared.worker_meter.Ending.{Ending}
+use Rattle.tko_metrics.specs.declared.worded.Worded.{Worded}
 use Rattle.tko_metrics.specs.Metrics.{ending_word, help_of, metric_kind, metric_kind_word, name_of}
 
 -- the two lines before the samples of a metric
@@ -17,11 +18,23 @@ unfoldable pub single : Metric → ℕ → List ℕ
 single metric number =
     head_of metric ++ (name_of metric ++ codes " " ++ decimal number ++ codes "\n")
 
--- a sample of the sessions that ended by a kind of fault
-unfoldable pub kind_sample : Metric → Ending → ℕ → List ℕ
-kind_sample metric ending number =
-    (name_of metric ++ codes "{kind=\"" ++ ending_word ending ++ codes "\"} ")
+-- a sample that has a word as the value of a label
+unfoldable pub word_sample : Metric → List ℕ → List ℕ → ℕ → List ℕ
+word_sample metric label word number =
+    (name_of metric ++ codes "{" ++ label ++ codes "=\"" ++ word ++ codes "\"} ")
     ++ (decimal number ++ codes "\n")
+
+-- a sample of the sessions that ended by a kind of fault
+abbrev pub kind_sample : Metric → Ending → ℕ → List ℕ
+kind_sample metric ending number =
+    word_sample metric (codes "kind") (ending_word ending) number
+
+-- a sample with its word as the value of a label
+abbrev pub worded_sample : Metric → List ℕ → Worded → List ℕ
+worded_sample metric label it = word_sample metric label it.word.now it.number
+
+unfoldable pub words_text : Metric → List ℕ → List Worded → List ℕ
+words_text metric label numbers = head_of metric ++ flat_map (worded_sample metric label) numbers
 
 -- a sample of a worker
 unfoldable pub worker_sample : Metric → ℕ → ℕ → List ℕ
@@ -62,10 +75,11 @@ unfoldable pub server_sample : Metric → List ℕ → ℕ → List ℕ
 server_sample metric address number =
     sample_front metric address ++ codes "} " ++ decimal number ++ codes "\n"
 
--- a sample of a server and a mark
-unfoldable pub mark_sample : Metric → List ℕ → List ℕ → ℕ → List ℕ
-mark_sample metric address mark number =
-    sample_front metric address ++ (codes ",mark=\"" ++ mark ++ codes "\"} ")
+-- a sample of a server that has a word as the value of another label
+unfoldable pub part_sample : Metric → List ℕ → List ℕ → List ℕ → ℕ → List ℕ
+part_sample metric address label word number =
+    sample_front metric address
+    ++ (codes "," ++ label ++ codes "=\"" ++ word ++ codes "\"} ")
     ++ (decimal number ++ codes "\n")
 
 -- how many milliseconds a second has
@@ -86,3 +100,14 @@ seconds_text moment =
 unfoldable pub moment_sample : Metric → List ℕ → ℕ → List ℕ
 moment_sample metric address moment =
     sample_front metric address ++ codes "} " ++ seconds_text moment ++ codes "\n"
+
+-- how many microseconds a second has
+abbrev pub micros_in_second : ℕ
+micros_in_second = 1000000
+
+-- microseconds as seconds, with six digits behind the point
+unfoldable pub micros_text : ℕ → List ℕ
+micros_text micros =
+    decimal (micros / micros_in_second) ++ codes "."
+    ++ three_digits (micros % micros_in_second / second)
+    ++ three_digits (micros % second)

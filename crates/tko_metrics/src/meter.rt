@@ -4,12 +4,16 @@ ghost use Rattle.std.specs.Arc.{arc_value};
 ghost use Rattle.tko_metrics.specs.Loads.{AreWorkersIf};
 ghost use Rattle.tko_metrics.specs.Meters.{HasParts, meter_parts};
 ghost use Rattle.tko_metrics.specs.Pages.{IsPage};
+ghost use Rattle.tko_metrics.specs.Traffic.{IsOfCommands, IsOfRefusals};
 
 use crate::counter::Counter;
+use crate::numbers::Numbers;
 use crate::page::Page;
 use crate::process::Process;
 use crate::reading::{Shown, Sums};
-use crate::worker_meter::{Numbers, WorkerMeter};
+use crate::timed::{TimedServer, request_times};
+use crate::worded::Worded;
+use crate::worker_meter::WorkerMeter;
 use crate::workers::WorkerReading;
 use std::alloc::{AllocError, Global};
 use std::sync::atomic::{AtomicU64, Ordering};
@@ -40,7 +44,7 @@ pub struct Meter {
 
 impl SharedMeter {
     /// Of these workers, which nobody has added to.
-    fn of(workers: Vec<Arc<Numbers, Global>>) -> SharedMeter
+    pub(crate) fn of(workers: Vec<Arc<Numbers, Global>>) -> SharedMeter
         ensures { result.workers ≡ workers }
     {
         SharedMeter {
@@ -61,6 +65,10 @@ impl SharedMeter {
     ) -> Result<Page<'a>, AllocError>
         ensures servers { IfOk result (λ page. map (λ server. server.address.now) page.servers.items
             ≡ map string_bytes addresses.now) }
+        ensures timed { IfOk result (λ page. map (λ server. server.address.now) page.timed.items
+            ≡ map string_bytes addresses.now) }
+        ensures refusals { IfOk result (λ page. IsOfRefusals page.refusals.items) }
+        ensures commands { IfOk result (λ page. IsOfCommands page.commands.items) }
         ensures workers { IfOk result (λ page. AreWorkersIf (length self.now.workers.items)
             (option_map (λ workers. workers.items) page.workers)) }
         ensures build { IfOk result (λ page. page.build ≡ process.now.build) }
@@ -70,7 +78,11 @@ impl SharedMeter {
             accepted: self.accepted.get(),
             dropped: self.dropped.get(),
             sums: Sums::of(self),
+            refusals: Worded::of_refusals(alloc, self)?,
+            commands: Worded::of_commands(alloc, self)?,
+            request_times: request_times(alloc, self)?,
             servers: Shown::all(alloc, self, addresses)?,
+            timed: TimedServer::all(alloc, self, addresses)?,
             workers: WorkerReading::all(alloc, self)?,
             build: process.build,
             descriptors: process.descriptors(),
@@ -188,7 +200,7 @@ impl Meter {
         shared.reading(alloc, addresses, process)?.text(alloc)
     }
 
-    fn shared(&self) -> Option<&SharedMeter>
+    pub(crate) fn shared(&self) -> Option<&SharedMeter>
         ensures { option_copied result ≡ option_map (λ shared. arc_value shared) self.now.shared }
     {
         match &self.shared {

@@ -7,6 +7,7 @@ ghost use Rattle.tko_metrics.specs.Metrics.{help_of, metric_kind, metric_kind_wo
 pub(crate) enum MetricKind {
     Counter,
     Gauge,
+    Histogram,
 }
 
 /// A metric of the page.
@@ -22,9 +23,17 @@ pub(crate) enum Metric {
     Skips,
     Replies,
     NoServer,
+    Refused,
+    Commands,
+    Hits,
+    Misses,
+    RequestTimes,
     Probes,
     ServerSends,
     ServerProbes,
+    ServerOutcomes,
+    InFlight,
+    ResponseTimes,
     ServerMarked,
     MarkedSince,
     WorkerClients,
@@ -43,6 +52,7 @@ impl MetricKind {
         match self {
             MetricKind::Counter => "counter",
             MetricKind::Gauge => "gauge",
+            MetricKind::Histogram => "histogram",
         }
     }
 }
@@ -50,6 +60,15 @@ impl MetricKind {
 /// The help text of `Metric::Dropped`.
 const DROPPED: &str =
     "Connections that were closed as they were accepted: no memory, or a socket's fault.";
+
+/// The help text of `Metric::RequestTimes`.
+const REQUEST_TIMES: &str = "How long requests took, from the moment at which each was read.";
+
+/// The help text of `Metric::InFlight`.
+const IN_FLIGHT: &str = "Requests that wait for a response of the server, or to be sent to it.";
+
+/// The help text of `Metric::ResponseTimes`.
+const RESPONSE_TIMES: &str = "How long the server took to answer, of all that it answered.";
 
 /// The help text of `Metric::WorkerConnections`.
 const CONNECTIONS: &str = "Connections of this event-driven worker to servers, made or being made.";
@@ -76,9 +95,17 @@ impl Metric {
             Metric::Skips => "tkoproxy_skips_total",
             Metric::Replies => "tkoproxy_replies_total",
             Metric::NoServer => "tkoproxy_no_server_total",
+            Metric::Refused => "tkoproxy_refused_total",
+            Metric::Commands => "tkoproxy_commands_total",
+            Metric::Hits => "tkoproxy_get_hits_total",
+            Metric::Misses => "tkoproxy_get_misses_total",
+            Metric::RequestTimes => "tkoproxy_request_seconds",
             Metric::Probes => "tkoproxy_probes_total",
             Metric::ServerSends => "tkoproxy_server_sends_total",
             Metric::ServerProbes => "tkoproxy_server_probes_total",
+            Metric::ServerOutcomes => "tkoproxy_server_outcomes_total",
+            Metric::InFlight => "tkoproxy_server_in_flight",
+            Metric::ResponseTimes => "tkoproxy_server_response_seconds",
             Metric::ServerMarked => "tkoproxy_server_marked",
             Metric::MarkedSince => "tkoproxy_server_marked_timestamp_seconds",
             Metric::WorkerClients => "tkoproxy_worker_clients",
@@ -106,9 +133,17 @@ impl Metric {
             Metric::Skips => "Targets that were passed over, since they were marked.",
             Metric::Replies => "Attempts that a server answered.",
             Metric::NoServer => "Routed requests that no server answered.",
+            Metric::Refused => "Lines that were refused, and clients of the binary protocol.",
+            Metric::Commands => "Requests that were read, by their command.",
+            Metric::Hits => "Keys of get and gets for which a server had a value.",
+            Metric::Misses => "Keys of get and gets for which the server that answered had none.",
+            Metric::RequestTimes => REQUEST_TIMES,
             Metric::Probes => "Probes of marked servers.",
             Metric::ServerSends => "Requests that were sent to the server.",
             Metric::ServerProbes => "Probes of the server.",
+            Metric::ServerOutcomes => "What came of the requests that were sent to the server.",
+            Metric::InFlight => IN_FLIGHT,
+            Metric::ResponseTimes => RESPONSE_TIMES,
             Metric::ServerMarked => {
                 "1 where the server has this mark, and is out of use, and else 0."
             }
@@ -129,28 +164,35 @@ impl Metric {
         ensures { result ≡ metric_kind self }
     {
         match self {
-            Metric::Connected => MetricKind::Gauge,
-            Metric::Accepted => MetricKind::Counter,
-            Metric::Dropped => MetricKind::Counter,
-            Metric::Sessions => MetricKind::Counter,
-            Metric::Faults => MetricKind::Counter,
-            Metric::Requests => MetricKind::Counter,
-            Metric::Attempts => MetricKind::Counter,
-            Metric::Skips => MetricKind::Counter,
-            Metric::Replies => MetricKind::Counter,
-            Metric::NoServer => MetricKind::Counter,
-            Metric::Probes => MetricKind::Counter,
-            Metric::ServerSends => MetricKind::Counter,
-            Metric::ServerProbes => MetricKind::Counter,
-            Metric::ServerMarked => MetricKind::Gauge,
-            Metric::MarkedSince => MetricKind::Gauge,
-            Metric::WorkerClients => MetricKind::Gauge,
-            Metric::WorkerConnections => MetricKind::Gauge,
-            Metric::WorkerWaiting => MetricKind::Gauge,
-            Metric::Build => MetricKind::Gauge,
-            Metric::Descriptors => MetricKind::Gauge,
-            Metric::DescriptorLimit => MetricKind::Gauge,
-            Metric::Memory => MetricKind::Gauge,
+            Metric::Connected
+            | Metric::InFlight
+            | Metric::ServerMarked
+            | Metric::MarkedSince
+            | Metric::WorkerClients
+            | Metric::WorkerConnections
+            | Metric::WorkerWaiting
+            | Metric::Build
+            | Metric::Descriptors
+            | Metric::DescriptorLimit
+            | Metric::Memory => MetricKind::Gauge,
+            Metric::Accepted
+            | Metric::Dropped
+            | Metric::Sessions
+            | Metric::Faults
+            | Metric::Requests
+            | Metric::Attempts
+            | Metric::Skips
+            | Metric::Replies
+            | Metric::NoServer
+            | Metric::Refused
+            | Metric::Commands
+            | Metric::Hits
+            | Metric::Misses
+            | Metric::Probes
+            | Metric::ServerSends
+            | Metric::ServerProbes
+            | Metric::ServerOutcomes => MetricKind::Counter,
+            Metric::RequestTimes | Metric::ResponseTimes => MetricKind::Histogram,
         }
     }
 }

@@ -1,14 +1,17 @@
 //! The page of a server's metrics.
 ghost use Rattle.std.specs.Prelude.{◌≡◌, ◌++◌, IfOk, OnOk};
-ghost use Rattle.tko_metrics.specs.Pages.{build_text, clients_text, counts_text, faults_text, hard_flag, known_text, mark_moment_of, mark_samples, marks_text, moments_text, page_text, probes_in_all, probes_text, process_text, requests_text, sends_text, servers_text, soft_flag, workers_text};
+ghost use Rattle.tko_metrics.specs.Pages.{build_text, clients_text, counts_text, faults_text, in_flight_text, known_text, page_text, probes_in_all, process_text, requests_text, servers_text, traffic_text, workers_text};
 
 use crate::build::Build;
 use crate::metrics::Metric;
-use crate::reading::{Shown, Sums};
-use crate::sample::{
-    add_of_build, add_of_kind, add_of_mark, add_of_moment, add_of_server, add_single, begin,
-};
-use crate::worker_meter::{Ending, Marking};
+use crate::reading::{ServerNumber, Shown, Sums};
+use crate::sample::{add_of_build, add_of_kind, add_single, begin};
+use crate::server_page::{add_marks, add_moments, add_numbers, add_outcomes};
+use crate::timed::{TimedServer, add_timed};
+use crate::times_page::add_times;
+use crate::times_reading::TimesReading;
+use crate::worded::{Worded, add_words};
+use crate::worker_meter::Ending;
 use crate::workers::{WorkerReading, add_loads};
 use std::alloc::Global;
 use tko_bytes::NoMemory;
@@ -20,7 +23,13 @@ pub(crate) struct Page<'a> {
     pub(crate) accepted: u64,
     pub(crate) dropped: u64,
     pub(crate) sums: Sums,
+    pub(crate) refusals: Vec<Worded>,
+    pub(crate) commands: Vec<Worded>,
+    /// How long requests took.
+    pub(crate) request_times: TimesReading,
     pub(crate) servers: Vec<Shown<'a>>,
+    /// How long the servers took to answer.
+    pub(crate) timed: Vec<TimedServer<'a>>,
     /// The workers, if they are event-driven.
     pub(crate) workers: Option<Vec<WorkerReading>>,
     pub(crate) build: Build,
@@ -49,6 +58,7 @@ impl Page<'_> {
         self.add_clients(out)?;
         add_faults(out, self.sums)?;
         add_requests(out, self.sums)?;
+        self.add_traffic(out)?;
         add_single(out, Metric::Probes, probes_in_all(&self.servers))
     }
 
@@ -62,14 +72,45 @@ impl Page<'_> {
         add_single(out, Metric::Sessions, self.sums.sessions)
     }
 
+    /// Appends what clients asked, and how that went.
+    #[tactic(auto, unfolding(crate::specs::Pages::traffic_text))]
+    fn add_traffic(&self, out: &mut Vec<u8>) -> Result<(), NoMemory>
+        ensures { OnOk result (out.new.items ≡ out.old.items ++ traffic_text self.now) }
+    {
+        add_words(out, Metric::Refused, b"kind", &self.refusals)?;
+        add_words(out, Metric::Commands, b"command", &self.commands)?;
+        add_single(out, Metric::Hits, self.sums.hits)?;
+        add_single(out, Metric::Misses, self.sums.misses)?;
+        begin(out, Metric::RequestTimes)?;
+        add_times(out, Metric::RequestTimes, None, &self.request_times)
+    }
+
     #[tactic(auto, unfolding(crate::specs::Pages::servers_text))]
     fn add_servers(&self, out: &mut Vec<u8>) -> Result<(), NoMemory>
         ensures { OnOk result (out.new.items ≡ out.old.items ++ servers_text self.now) }
     {
-        add_sends(out, &self.servers)?;
-        add_probes(out, &self.servers)?;
+        add_numbers(out, Metric::ServerSends, ServerNumber::Sends, &self.servers)?;
+        add_numbers(
+            out,
+            Metric::ServerProbes,
+            ServerNumber::Probes,
+            &self.servers,
+        )?;
+        add_outcomes(out, &self.servers)?;
+        self.add_in_flight(out)?;
+        add_timed(out, &self.timed)?;
         add_marks(out, &self.servers)?;
         add_moments(out, &self.servers)
+    }
+
+    /// Appends how many requests are in flight to each server, if the workers are event-driven.
+    fn add_in_flight(&self, out: &mut Vec<u8>) -> Result<(), NoMemory>
+        ensures { OnOk result (out.new.items ≡ out.old.items ++ in_flight_text self.now) }
+    {
+        match &self.workers {
+            Some(_) => add_numbers(out, Metric::InFlight, ServerNumber::InFlight, &self.servers),
+            None => Ok(()),
+        }
     }
 
     fn add_workers(&self, out: &mut Vec<u8>) -> Result<(), NoMemory>
@@ -123,115 +164,6 @@ fn probes_in_all(servers: &[Shown<'_>]) -> u64
         probes = probes.saturating_add(server.reading.probes);
     }
     probes
-}
-
-#[tactic(auto, unfolding(crate::specs::Pages::sends_text))]
-fn add_sends(out: &mut Vec<u8>, servers: &[Shown<'_>]) -> Result<(), NoMemory>
-    ensures { OnOk result (out.new.items ≡ out.old.items ++ sends_text servers.now) }
-{
-    begin(out, Metric::ServerSends)?;
-    for server in servers {
-        add_of_server(
-            out,
-            Metric::ServerSends,
-            server.address,
-            server.reading.sends,
-        )?;
-    }
-    Ok(())
-}
-
-#[tactic(auto, unfolding(crate::specs::Pages::probes_text))]
-fn add_probes(out: &mut Vec<u8>, servers: &[Shown<'_>]) -> Result<(), NoMemory>
-    ensures { OnOk result (out.new.items ≡ out.old.items ++ probes_text servers.now) }
-{
-    begin(out, Metric::ServerProbes)?;
-    for server in servers {
-        add_of_server(
-            out,
-            Metric::ServerProbes,
-            server.address,
-            server.reading.probes,
-        )?;
-    }
-    Ok(())
-}
-
-#[tactic(auto, unfolding(crate::specs::Pages::marks_text))]
-fn add_marks(out: &mut Vec<u8>, servers: &[Shown<'_>]) -> Result<(), NoMemory>
-    ensures { OnOk result (out.new.items ≡ out.old.items ++ marks_text servers.now) }
-{
-    begin(out, Metric::ServerMarked)?;
-    for server in servers {
-        add_marks_of(out, *server)?;
-    }
-    Ok(())
-}
-
-/// Appends whether a server has each of the two marks.
-#[tactic(auto, unfolding(crate::specs::Pages::mark_samples))]
-fn add_marks_of(out: &mut Vec<u8>, server: Shown<'_>) -> Result<(), NoMemory>
-    ensures { OnOk result (out.new.items ≡ out.old.items ++ mark_samples server.entry) }
-{
-    let Shown { address, reading } = server;
-    add_of_mark(
-        out,
-        Metric::ServerMarked,
-        address,
-        b"soft",
-        soft_flag(reading.mark),
-    )?;
-    add_of_mark(
-        out,
-        Metric::ServerMarked,
-        address,
-        b"hard",
-        hard_flag(reading.mark),
-    )
-}
-
-/// 1 where the mark is soft.
-fn soft_flag(mark: Marking) -> u64
-    ensures { result ≡ soft_flag mark }
-{
-    match mark {
-        Marking::Soft => 1,
-        Marking::Up | Marking::Hard => 0,
-    }
-}
-
-/// 1 where the mark is hard.
-fn hard_flag(mark: Marking) -> u64
-    ensures { result ≡ hard_flag mark }
-{
-    match mark {
-        Marking::Hard => 1,
-        Marking::Up | Marking::Soft => 0,
-    }
-}
-
-#[tactic(auto, unfolding(crate::specs::Pages::moments_text))]
-fn add_moments(out: &mut Vec<u8>, servers: &[Shown<'_>]) -> Result<(), NoMemory>
-    ensures { OnOk result (out.new.items ≡ out.old.items ++ moments_text servers.now) }
-{
-    begin(out, Metric::MarkedSince)?;
-    for server in servers {
-        add_moment_of(out, *server)?;
-    }
-    Ok(())
-}
-
-/// Appends since when a server is marked, if it is.
-fn add_moment_of(out: &mut Vec<u8>, server: Shown<'_>) -> Result<(), NoMemory>
-    ensures { OnOk result (out.new.items ≡ out.old.items ++ mark_moment_of server.entry) }
-{
-    let Shown { address, reading } = server;
-    match reading.mark {
-        Marking::Up => Ok(()),
-        Marking::Soft | Marking::Hard => {
-            add_of_moment(out, Metric::MarkedSince, address, reading.since)
-        }
-    }
 }
 
 /// Appends which build the process runs.

@@ -1,43 +1,84 @@
 //! What a meter says at a moment.
-ghost use Rattle.std.specs.Prelude.{◌≡◌, IfOk, find, map, string_bytes, sum_by};
-ghost use Rattle.tko_bytes.specs.Numbers.{capped};
-ghost use Rattle.tko_metrics.specs.Readings.{is_marked_reading, together};
+ghost use Rattle.std.specs.Prelude.{◌≡◌, All, IfOk, find, length, map, string_bytes};
+ghost use Rattle.tko_metrics.specs.Readings.{AreOfWorkers, IsOfWorkers, is_marked_reading, server_number, together, total_of};
 
+use crate::marking::Marking;
 use crate::meter::SharedMeter;
-use crate::worker_meter::{Marking, Numbers};
+use crate::numbers::Numbers;
+use crate::sent_end::SentEnd;
 use std::alloc::{AllocError, Global};
 
 /// What all workers counted.
 #[derive(Clone, Copy, Debug, PartialEq, Eq)]
-pub(crate) struct Sums {
-    pub(crate) requests: u64,
-    pub(crate) attempts: u64,
-    pub(crate) skips: u64,
-    pub(crate) replies: u64,
-    pub(crate) no_server: u64,
-    pub(crate) sessions: u64,
-    pub(crate) read_faults: u64,
-    pub(crate) write_faults: u64,
-    pub(crate) line_faults: u64,
-    pub(crate) memory_faults: u64,
+pub struct Sums {
+    pub requests: u64,
+    pub attempts: u64,
+    pub skips: u64,
+    pub replies: u64,
+    pub no_server: u64,
+    pub hits: u64,
+    pub misses: u64,
+    pub sessions: u64,
+    pub read_faults: u64,
+    pub write_faults: u64,
+    pub line_faults: u64,
+    pub memory_faults: u64,
 }
 
 /// What one worker counted of a server, and the mark that it has on it; or what all counted, and
 /// the server's mark.
 #[derive(Clone, Copy, Debug, PartialEq, Eq)]
-pub(crate) struct ServerReading {
-    pub(crate) sends: u64,
-    pub(crate) probes: u64,
-    pub(crate) mark: Marking,
+pub struct ServerReading {
+    pub sends: u64,
+    pub probes: u64,
+    pub replies: u64,
+    pub timeouts: u64,
+    pub refused: u64,
+    pub broken: u64,
+    pub aborted: u64,
+    /// The requests that wait for a response of the server, or to be sent to it.
+    pub in_flight: u64,
+    pub mark: Marking,
     /// When the mark was set, in milliseconds since 1970.
-    pub(crate) since: u64,
+    pub since: u64,
+    /// In how many milliseconds the next probe is due, if one is.
+    pub next_probe: Option<u64>,
+    /// The worker that counted it; or the one that has the mark, and so probes the server.
+    pub worker: u64,
+}
+
+/// A number that is counted of a server.
+#[derive(Clone, Copy, Debug, PartialEq, Eq)]
+pub(crate) enum ServerNumber {
+    Sends,
+    Probes,
+    /// How often what was sent came to this.
+    Ended(SentEnd),
+    InFlight,
+}
+
+impl ServerNumber {
+    pub(crate) fn of(self, reading: ServerReading) -> u64
+        ensures { result ≡ server_number self reading }
+    {
+        match self {
+            ServerNumber::Sends => reading.sends,
+            ServerNumber::Probes => reading.probes,
+            ServerNumber::Ended(SentEnd::Reply) => reading.replies,
+            ServerNumber::Ended(SentEnd::Timeout) => reading.timeouts,
+            ServerNumber::Ended(SentEnd::Refused) => reading.refused,
+            ServerNumber::Ended(SentEnd::Broken) => reading.broken,
+            ServerNumber::Ended(SentEnd::Aborted) => reading.aborted,
+            ServerNumber::InFlight => reading.in_flight,
+        }
+    }
 }
 
 /// A server of a page: its address, and what the workers counted of it.
 #[derive(Clone, Copy, Debug)]
-pub(crate) struct Shown<'a> {
-    pub(crate) address: &'a str,
-    pub(crate) reading: ServerReading,
+pub struct Shown<'a> {
+    pub address: &'a str,
+    pub reading: ServerReading,
 }
 
 impl Shown<'_> {
@@ -47,13 +88,15 @@ impl Shown<'_> {
         shared: &SharedMeter,
         addresses: &'a [String],
     ) -> Result<Vec<Shown<'a>>, AllocError>
-        ensures { IfOk result (λ servers.
+        ensures addresses { IfOk result (λ servers.
             map (λ server. server.address.now) servers.items ≡ map string_bytes addresses.now) }
+        ensures readings { IfOk result (λ servers.
+            All (λ server. IsOfWorkers (length shared.now.workers.items) server.reading)
+            servers.items) }
     {
         let mut servers = Vec::new(alloc);
         for (place, address) in addresses.iter().enumerate() {
-            let parts = ServerReading::of_workers(alloc, shared, place)?;
-            let reading = ServerReading::together(&parts);
+            let reading = ServerReading::of(alloc, shared, place)?;
             let address = address.as_str();
             servers.push(Shown { address, reading })?;
         }
@@ -70,6 +113,8 @@ impl Sums {
             skips: 0,
             replies: 0,
             no_server: 0,
+            hits: 0,
+            misses: 0,
             sessions: 0,
             read_faults: 0,
             write_faults: 0,
@@ -89,6 +134,8 @@ impl Sums {
         self.skips = self.skips.saturating_add(worker.skips.get());
         self.replies = self.replies.saturating_add(worker.replies.get());
         self.no_server = self.no_server.saturating_add(worker.no_server.get());
+        self.hits = self.hits.saturating_add(worker.hits.get());
+        self.misses = self.misses.saturating_add(worker.misses.get());
     }
 
     fn add_sessions(&mut self, worker: &Numbers) {
@@ -103,19 +150,58 @@ impl Sums {
 }
 
 impl ServerReading {
+    /// What the workers counted together of a server.
+    fn of(alloc: Global, shared: &SharedMeter, server: usize) -> Result<ServerReading, AllocError>
+        ensures { IfOk result (IsOfWorkers (length shared.now.workers.items)) }
+    {
+        let parts = ServerReading::of_workers(alloc, shared, server)?;
+        Ok(ServerReading::together(&parts))
+    }
+
     /// What each worker counted of a server.
     fn of_workers(
         alloc: Global,
         shared: &SharedMeter,
         server: usize,
-    ) -> Result<Vec<ServerReading>, AllocError> {
+    ) -> Result<Vec<ServerReading>, AllocError>
+        ensures { IfOk result (λ parts.
+            AreOfWorkers (length shared.now.workers.items) parts.items) }
+    {
         let mut parts = Vec::new(alloc);
-        for worker in shared.workers.iter() {
-            if let Some(numbers) = worker.servers.get(server) {
-                parts.push(numbers.reading())?;
-            }
+        for (worker, numbers) in shared.workers.iter().enumerate() {
+            parts.push(ServerReading::of_worker(numbers, worker as u64, server))?;
         }
         Ok(parts)
+    }
+
+    /// What the worker of this number counted of a server.
+    fn of_worker(numbers: &Numbers, worker: u64, server: usize) -> ServerReading
+        ensures { result.worker ≡ worker }
+    {
+        match numbers.servers.get(server) {
+            Some(numbers) => numbers.reading(worker),
+            None => ServerReading::nothing(worker),
+        }
+    }
+
+    /// What a worker counted of a server that it does not have.
+    fn nothing(worker: u64) -> ServerReading
+        ensures { result.worker ≡ worker }
+    {
+        ServerReading {
+            sends: 0,
+            probes: 0,
+            replies: 0,
+            timeouts: 0,
+            refused: 0,
+            broken: 0,
+            aborted: 0,
+            in_flight: 0,
+            mark: Marking::Up,
+            since: 0,
+            next_probe: None,
+            worker,
+        }
     }
 
     /// What the workers counted together of a server. Its mark is that of the worker that has one:
@@ -123,15 +209,23 @@ impl ServerReading {
     fn together(parts: &[ServerReading]) -> ServerReading
         ensures { result ≡ together parts.now }
     {
-        let (mark, since) = match first_marked(parts) {
-            Some(part) => (part.mark, part.since),
-            None => (Marking::Up, 0),
+        let (mark, since, next_probe, worker) = match first_marked(parts) {
+            Some(part) => (part.mark, part.since, part.next_probe, part.worker),
+            None => (Marking::Up, 0, None, 0),
         };
         ServerReading {
-            sends: sends_of(parts),
-            probes: probes_of(parts),
+            sends: total(parts, ServerNumber::Sends),
+            probes: total(parts, ServerNumber::Probes),
+            replies: total(parts, ServerNumber::Ended(SentEnd::Reply)),
+            timeouts: total(parts, ServerNumber::Ended(SentEnd::Timeout)),
+            refused: total(parts, ServerNumber::Ended(SentEnd::Refused)),
+            broken: total(parts, ServerNumber::Ended(SentEnd::Broken)),
+            aborted: total(parts, ServerNumber::Ended(SentEnd::Aborted)),
+            in_flight: total(parts, ServerNumber::InFlight),
             mark,
             since,
+            next_probe,
+            worker,
         }
     }
 }
@@ -148,24 +242,13 @@ fn first_marked(parts: &[ServerReading]) -> Option<ServerReading>
     None
 }
 
-/// The sends of all.
-fn sends_of(parts: &[ServerReading]) -> u64
-    ensures { result ≡ capped (sum_by (λ part. part.sends) parts.now) }
+/// This number of all.
+fn total(parts: &[ServerReading], which: ServerNumber) -> u64
+    ensures { result ≡ total_of which parts.now }
 {
-    let mut sends = 0u64;
+    let mut sum = 0u64;
     for part in parts {
-        sends = sends.saturating_add(part.sends);
+        sum = sum.saturating_add(which.of(*part));
     }
-    sends
-}
-
-/// The probes of all.
-fn probes_of(parts: &[ServerReading]) -> u64
-    ensures { result ≡ capped (sum_by (λ part. part.probes) parts.now) }
-{
-    let mut probes = 0u64;
-    for part in parts {
-        probes = probes.saturating_add(part.probes);
-    }
-    probes
+    sum
 }

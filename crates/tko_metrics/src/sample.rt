@@ -1,6 +1,6 @@
 //! The text format of Prometheus.
 ghost use Rattle.std.specs.Prelude.{◌≡◌, ◌++◌, OnOk, decimal};
-ghost use Rattle.tko_metrics.specs.Samples.{build_sample, escaped_byte, head_of, kind_sample, label_text, mark_sample, moment_sample, sample_front, seconds_text, server_sample, single, three_digits, worker_sample};
+ghost use Rattle.tko_metrics.specs.Samples.{build_sample, escaped_byte, head_of, kind_sample, label_text, micros_text, moment_sample, part_sample, sample_front, seconds_text, server_sample, single, three_digits, word_sample, worker_sample};
 
 use crate::build::Build;
 use crate::metrics::Metric;
@@ -10,6 +10,9 @@ use tko_bytes::{NoMemory, append};
 
 /// How many milliseconds a second has.
 const SECOND: u64 = 1_000;
+
+/// How many microseconds a second has.
+const MICROS_IN_SECOND: u64 = 1_000_000;
 
 /// Appends the lines before a metric's samples.
 #[tactic(auto, unfolding(crate::specs::Samples::head_of))]
@@ -35,8 +38,26 @@ pub(crate) fn add_single(out: &mut Vec<u8>, metric: Metric, number: u64) -> Resu
     append(out, &[digits.format(number).as_bytes(), b"\n"])
 }
 
+/// Appends a sample that has a word as the value of this label.
+#[tactic(auto, unfolding(crate::specs::Samples::word_sample))]
+pub(crate) fn add_of_word(
+    out: &mut Vec<u8>,
+    metric: Metric,
+    label: &[u8],
+    word: &str,
+    number: u64,
+) -> Result<(), NoMemory>
+    ensures { OnOk result (out.new.items
+        ≡ out.old.items ++ word_sample metric label.now word.now number) }
+{
+    append(out, &[metric.name().as_bytes(), b"{"])?;
+    append(out, &[label, b"=\""])?;
+    append(out, &[word.as_bytes(), b"\"} "])?;
+    add_digits(out, number)?;
+    append(out, &[b"\n"])
+}
+
 /// Appends a sample of the sessions that ended by a kind of fault.
-#[tactic(auto, unfolding(crate::specs::Samples::kind_sample))]
 pub(crate) fn add_of_kind(
     out: &mut Vec<u8>,
     metric: Metric,
@@ -45,17 +66,7 @@ pub(crate) fn add_of_kind(
 ) -> Result<(), NoMemory>
     ensures { OnOk result (out.new.items ≡ out.old.items ++ kind_sample metric ending number) }
 {
-    let mut digits = Buffer::new();
-    append(
-        out,
-        &[
-            metric.name().as_bytes(),
-            b"{kind=\"",
-            ending.word().as_bytes(),
-            b"\"} ",
-        ],
-    )?;
-    append(out, &[digits.format(number).as_bytes(), b"\n"])
+    add_of_word(out, metric, b"kind", ending.word(), number)
 }
 
 /// Appends a sample of a worker.
@@ -103,22 +114,24 @@ pub(crate) fn add_of_server(
     append(out, &[b"} ", digits.format(number).as_bytes(), b"\n"])
 }
 
-/// Appends a sample of a server and a mark.
-#[tactic(auto, unfolding(crate::specs::Samples::mark_sample))]
-pub(crate) fn add_of_mark(
+/// Appends a sample of a server that has a word as the value of this label too.
+#[tactic(auto, unfolding(crate::specs::Samples::part_sample))]
+pub(crate) fn add_of_part(
     out: &mut Vec<u8>,
     metric: Metric,
     address: &str,
-    mark: &[u8],
+    label: &[u8],
+    word: &[u8],
     number: u64,
 ) -> Result<(), NoMemory>
-    ensures { OnOk result
-        (out.new.items ≡ out.old.items ++ mark_sample metric address.now mark.now number) }
+    ensures { OnOk result (out.new.items
+        ≡ out.old.items ++ part_sample metric address.now label.now word.now number) }
 {
-    let mut digits = Buffer::new();
     begin_sample(out, metric, address)?;
-    append(out, &[b",mark=\"", mark, b"\"} "])?;
-    append(out, &[digits.format(number).as_bytes(), b"\n"])
+    append(out, &[b",", label, b"=\""])?;
+    append(out, &[word, b"\"} "])?;
+    add_digits(out, number)?;
+    append(out, &[b"\n"])
 }
 
 /// Appends a sample of a server that is a moment, in milliseconds since 1970; it is written in
@@ -141,12 +154,23 @@ pub(crate) fn add_of_moment(
 
 /// Appends milliseconds as seconds with three digits behind the point.
 #[tactic(auto, unfolding(crate::specs::Samples::seconds_text))]
-fn add_seconds(out: &mut Vec<u8>, moment: u64) -> Result<(), NoMemory>
+pub(crate) fn add_seconds(out: &mut Vec<u8>, moment: u64) -> Result<(), NoMemory>
     ensures { OnOk result (out.new.items ≡ out.old.items ++ seconds_text moment) }
 {
     add_digits(out, moment / SECOND)?;
     append(out, &[b"."])?;
     add_three_digits(out, moment % SECOND)
+}
+
+/// Appends microseconds as seconds with six digits behind the point.
+#[tactic(auto, unfolding(crate::specs::Samples::micros_text))]
+pub(crate) fn add_micros(out: &mut Vec<u8>, micros: u64) -> Result<(), NoMemory>
+    ensures { OnOk result (out.new.items ≡ out.old.items ++ micros_text micros) }
+{
+    add_digits(out, micros / MICROS_IN_SECOND)?;
+    append(out, &[b"."])?;
+    add_three_digits(out, micros % MICROS_IN_SECOND / SECOND)?;
+    add_three_digits(out, micros % SECOND)
 }
 
 /// Appends a number below 1,000 as three digits.
@@ -158,7 +182,8 @@ fn add_three_digits(out: &mut Vec<u8>, number: u64) -> Result<(), NoMemory>
     add_digits(out, number % 10)
 }
 
-fn add_digits(out: &mut Vec<u8>, number: u64) -> Result<(), NoMemory>
+/// Appends a number.
+pub fn add_digits(out: &mut Vec<u8>, number: u64) -> Result<(), NoMemory>
     ensures { OnOk result (out.new.items ≡ out.old.items ++ decimal number) }
 {
     let mut digits = Buffer::new();
@@ -177,7 +202,7 @@ fn begin_sample(out: &mut Vec<u8>, metric: Metric, address: &str) -> Result<(), 
 }
 
 /// Appends the value of a label, which stands between quotes.
-fn add_label_text(out: &mut Vec<u8>, text: &str) -> Result<(), NoMemory>
+pub(crate) fn add_label_text(out: &mut Vec<u8>, text: &str) -> Result<(), NoMemory>
     ensures { OnOk result (out.new.items ≡ out.old.items ++ label_text text.now) }
 {
     for byte in text.as_bytes() {

@@ -1,11 +1,14 @@
 //! The numbers of one worker.
 ghost use Rattle.std.specs.Prelude.{◌≡◌};
-ghost use Rattle.tko_metrics.specs.Marks.{is_mark, mark_number, since_after};
 ghost use Rattle.tko_metrics.specs.Metrics.{ending_word};
 
-use crate::counter::Counter;
-use crate::load::{LoadNumbers, WorkerLoad};
-use crate::reading::ServerReading;
+use crate::command::Command;
+use crate::load::WorkerLoad;
+use crate::marking::Marking;
+use crate::numbers::{Numbers, ServerNumbers};
+use crate::refusal::Refusal;
+use crate::sent_end::SentEnd;
+use crate::server_load::ServerLoad;
 use std::alloc::{AllocError, Global};
 use std::sync::Arc;
 
@@ -45,141 +48,10 @@ impl Ending {
     }
 }
 
-/// The mark that a worker has on a server.
-#[derive(Clone, Copy, Debug, PartialEq, Eq)]
-pub enum Marking {
-    Up,
-    Soft,
-    Hard,
-}
-
-/// What one worker counts. It alone writes here.
-#[derive(Drop)]
-pub(crate) struct Numbers {
-    pub(crate) requests: Counter,
-    pub(crate) attempts: Counter,
-    pub(crate) skips: Counter,
-    pub(crate) replies: Counter,
-    pub(crate) no_server: Counter,
-    pub(crate) sessions: Counter,
-    pub(crate) read_faults: Counter,
-    pub(crate) write_faults: Counter,
-    pub(crate) line_faults: Counter,
-    pub(crate) memory_faults: Counter,
-    pub(crate) servers: Vec<ServerNumbers>,
-    pub(crate) load: LoadNumbers,
-}
-
-/// What one worker counts of a server, and the mark that it has on it.
-#[derive(Drop)]
-pub(crate) struct ServerNumbers {
-    pub(crate) sends: Counter,
-    pub(crate) probes: Counter,
-    /// 0 for no mark, 1 for a soft one, 2 for a hard one.
-    pub(crate) mark: Counter,
-    /// When the mark was set, in milliseconds since 1970.
-    pub(crate) since: Counter,
-}
-
 /// One worker's part of a meter. A part that is off keeps nothing.
 #[derive(Drop)]
 pub struct WorkerMeter {
     numbers: Option<Arc<Numbers, Global>>,
-}
-
-impl Numbers {
-    /// Of a worker over this many servers, which has not begun.
-    pub(crate) fn new(alloc: Global, servers: usize) -> Result<Numbers, AllocError> {
-        let mut each = Vec::new(alloc);
-        for _ in 0..servers {
-            each.push(ServerNumbers::new())?;
-        }
-        Ok(Numbers {
-            requests: Counter::new(),
-            attempts: Counter::new(),
-            skips: Counter::new(),
-            replies: Counter::new(),
-            no_server: Counter::new(),
-            sessions: Counter::new(),
-            read_faults: Counter::new(),
-            write_faults: Counter::new(),
-            line_faults: Counter::new(),
-            memory_faults: Counter::new(),
-            servers: each,
-            load: LoadNumbers::new(),
-        })
-    }
-}
-
-impl ServerNumbers {
-    fn new() -> ServerNumbers {
-        ServerNumbers {
-            sends: Counter::new(),
-            probes: Counter::new(),
-            mark: Counter::new(),
-            since: Counter::new(),
-        }
-    }
-
-    /// The worker's numbers of the server at this moment.
-    pub(crate) fn reading(&self) -> ServerReading {
-        ServerReading {
-            sends: self.sends.get(),
-            probes: self.probes.get(),
-            mark: Marking::of(self.mark.get()),
-            since: self.since.get(),
-        }
-    }
-
-    /// Sets the mark, which was set at this moment.
-    fn set_mark(&self, mark: Marking, moment: u64) {
-        let was = Marking::of(self.mark.get());
-        self.since.set(since(was, self.since.get(), moment));
-        self.mark.set(mark.number());
-    }
-}
-
-/// Since when a server is marked, once a mark is set at this moment. A mark that is hardened keeps
-/// its moment.
-fn since(was: Marking, since: u64, moment: u64) -> u64
-    ensures { result ≡ since_after was since moment }
-{
-    match was {
-        Marking::Up => moment,
-        Marking::Soft | Marking::Hard => since,
-    }
-}
-
-impl Marking {
-    fn of(number: u64) -> Marking
-        ensures { (mark : Marking) → number ≡ mark_number mark → result ≡ mark }
-    {
-        match number {
-            0 => Marking::Up,
-            1 => Marking::Soft,
-            _ => Marking::Hard,
-        }
-    }
-
-    /// Whether there is a mark.
-    pub(crate) fn is_set(self) -> bool
-        ensures { result ≡ is_mark self }
-    {
-        match self {
-            Marking::Up => false,
-            Marking::Soft | Marking::Hard => true,
-        }
-    }
-
-    fn number(self) -> u64
-        ensures { result ≡ mark_number self }
-    {
-        match self {
-            Marking::Up => 0,
-            Marking::Soft => 1,
-            Marking::Hard => 2,
-        }
-    }
 }
 
 impl WorkerMeter {
@@ -215,6 +87,53 @@ impl WorkerMeter {
             numbers.skips.add(more.skips);
             numbers.replies.add(more.replies);
             numbers.no_server.add(more.no_server);
+        }
+    }
+
+    /// Counts a request that was read.
+    pub fn count_command(&self, command: Command) {
+        if let Some(numbers) = &self.numbers {
+            numbers.commands.count(command.place());
+        }
+    }
+
+    /// Counts a line that was refused, or a client.
+    pub fn refuse(&self, why: Refusal) {
+        if let Some(numbers) = &self.numbers {
+            numbers.refusals.count(why.place());
+        }
+    }
+
+    /// Counts a key of a `get` or `gets` that a server answered with a value, or without.
+    pub fn count_key(&self, has_value: bool) {
+        if let Some(numbers) = &self.numbers {
+            let number = if has_value {
+                &numbers.hits
+            } else {
+                &numbers.misses
+            };
+            number.add(1);
+        }
+    }
+
+    /// Counts a request that took so many microseconds.
+    pub fn time_request(&self, micros: u64) {
+        if let Some(numbers) = &self.numbers {
+            numbers.request_times.count(micros);
+        }
+    }
+
+    /// Counts what came of what was sent to this server.
+    pub fn count_end(&self, server: usize, end: SentEnd) {
+        if let Some(server) = self.server(server) {
+            server.outcomes.count(end.place());
+        }
+    }
+
+    /// Counts a response of this server, which took so many microseconds.
+    pub fn time_response(&self, server: usize, micros: u64) {
+        if let Some(server) = self.server(server) {
+            server.response_times.count(micros);
         }
     }
 
@@ -258,6 +177,13 @@ impl WorkerMeter {
     pub fn set_load(&self, load: WorkerLoad) {
         if let Some(numbers) = &self.numbers {
             numbers.load.set(load);
+        }
+    }
+
+    /// The worker is event-driven, and this is what it has to do with this server now.
+    pub fn set_server_load(&self, server: usize, load: ServerLoad) {
+        if let Some(server) = self.server(server) {
+            server.load.set(load);
         }
     }
 

@@ -11,9 +11,9 @@ use tko_bytes::NoMemory;
 
 /// A worker of a page: its number, and its load.
 #[derive(Clone, Copy, Debug)]
-pub(crate) struct WorkerReading {
-    pub(crate) worker: u64,
-    pub(crate) load: WorkerLoad,
+pub struct WorkerReading {
+    pub worker: u64,
+    pub load: WorkerLoad,
 }
 
 /// A gauge of each event-driven worker.

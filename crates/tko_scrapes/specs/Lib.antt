@@ -1,2 +1,4 @@
+pub mod Answers
 pub mod Pages
+pub mod Scrapes
 pub mod Visits

@@ -15,6 +15,9 @@ returns c =
       page = c.in_ok-reading.field-0;
       of_build = c.in_ok-reading.ensures.build;
       servers = c.in_ok-reading.ensures.servers;
+      timed = c.in_ok-reading.ensures.timed;
+      refusals = c.in_ok-reading.ensures.refusals;
+      commands = c.in_ok-reading.ensures.commands;
       workers = subst (λ count. AreWorkersIf count
           (option_map (λ workers. workers.items) c.in_ok-reading.field-0.workers)) parts
           c.in_ok-reading.ensures.workers;

@@ -1,0 +1,9 @@
+pub mod Cells
+pub mod Counts
+pub mod Durations
+pub mod Escaping
+pub mod Pages
+pub mod Past
+pub mod Pieces
+pub mod Quantiles
+pub mod Rows
