@@ -7,7 +7,7 @@ use crate::Way;
 use crate::listening::{AcceptStop, Listening};
 use crate::room::{ClientPlace, Room};
 use std::alloc::{AllocError, Global};
-use std::net::TcpStream;
+use std::net::{SocketAddr, TcpStream};
 use std::sync::{Arc, Wait};
 use tko_events::Log;
 use tko_threads::Patience;
@@ -57,8 +57,8 @@ pub fn accept_all<R: Wait, W: Way>(
             continue;
         }
         match listening.accept() {
-            Ok(stream) => {
-                if !entrance.admit(rt, alloc, stream) {
+            Ok((stream, address)) => {
+                if !entrance.admit(rt, alloc, stream, address) {
                     return AcceptEnd::NoWorker;
                 }
                 if left == 1 {
@@ -93,11 +93,17 @@ impl<W: Way> Entrance<W> {
     /// Hands a connection to the workers, and returns whether a worker is left. A connection whose
     /// socket cannot be set up, or for which there is no memory, is closed at once. It is counted
     /// as a session that ended by a fault.
-    fn admit<R: Wait>(&mut self, rt: &R, alloc: Global, stream: TcpStream) -> bool
+    fn admit<R: Wait>(
+        &mut self,
+        rt: &R,
+        alloc: Global,
+        stream: TcpStream,
+        address: SocketAddr,
+    ) -> bool
         ensures worker { self.new.has_worker ≡ (self.old.has_worker && result) }
         ensures closed { OnFalse result (W.is_closed self.new.way) }
     {
-        match self.client(alloc, stream) {
+        match self.client(alloc, stream, address) {
             Ok(Some(client)) => {
                 self.log.meter().accept_client();
                 self.send(rt, client)
@@ -122,11 +128,17 @@ impl<W: Way> Entrance<W> {
 
     /// Makes the client of a connection, with a place in the room; `None` if its socket cannot be
     /// set up.
-    fn client(&self, alloc: Global, stream: TcpStream) -> Result<Option<W::Client>, AllocError> {
+    fn client(
+        &self,
+        alloc: Global,
+        stream: TcpStream,
+        address: SocketAddr,
+    ) -> Result<Option<W::Client>, AllocError> {
         if self.patience.set(&stream).is_err() {
             return Ok(None);
         }
         let place = ClientPlace::take(&self.room)?;
-        Ok(Some(W::client(alloc, stream, place, self.patience)?))
+        let client = W::client(alloc, stream, address, place, self.patience)?;
+        Ok(Some(client))
     }
 }

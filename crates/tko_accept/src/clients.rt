@@ -7,11 +7,11 @@ use crossbeam_channel::{Receiver, RecvTimeoutError};
 use std::alloc::{AllocError, Global};
 use std::io;
 use std::io::{ErrorKind, Read, Write};
-use std::net::TcpStream;
+use std::net::{SocketAddr, TcpStream};
 use std::sync::Arc;
 use std::time::Duration;
 use tko_io::{IoRuntime, MonotonicClock, Piped};
-use tko_threads::{IDLE, Next, Patience, Source};
+use tko_threads::{IDLE, Next, Patience, Source, Visitor};
 
 /// A client's connection. Both its ends share it, so that a client takes one descriptor. The socket
 /// is closed before the place is freed.
@@ -33,19 +33,22 @@ pub struct Outgoing {
     connection: Arc<Connection, Global>,
 }
 
-/// A client: the two ends of its connection, and its time limits.
+/// A client: the two ends of its connection, its address, and its time limits.
 #[derive(Drop)]
 pub struct AcceptedClient {
     reader: Piped<Incoming>,
     writer: Piped<Outgoing>,
+    address: SocketAddr,
     patience: Patience,
 }
 
 impl AcceptedClient {
-    /// The client of a connection whose socket was set up with these time limits.
+    /// The client of a connection from this address, whose socket was set up with these time
+    /// limits.
     pub(crate) fn new(
         alloc: Global,
         stream: TcpStream,
+        address: SocketAddr,
         place: ClientPlace,
         patience: Patience,
     ) -> Result<AcceptedClient, AllocError> {
@@ -57,6 +60,7 @@ impl AcceptedClient {
         Ok(AcceptedClient {
             reader: Piped::new(reader),
             writer: Piped::new(writer),
+            address,
             patience,
         })
     }
@@ -113,7 +117,12 @@ impl Source for Clients {
             return Next::Closed;
         };
         match accepted.recv_timeout(rt, Duration::from_millis(u64::from(IDLE))) {
-            Ok(client) => Next::Connection(client.reader, client.writer, client.patience),
+            Ok(client) => Next::Connection(Visitor {
+                reader: client.reader,
+                writer: client.writer,
+                address: Some(client.address),
+                patience: client.patience,
+            }),
             Err(RecvTimeoutError::Timeout) => Next::Idle,
             Err(RecvTimeoutError::Disconnected) => Next::Closed,
         }

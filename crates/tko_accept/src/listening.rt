@@ -6,7 +6,7 @@ ghost use Rattle.tko_accept.specs.Accepting.{IsListenerBroken, count_after, is_b
 use libc::net::listen;
 use std::io;
 use std::io::ErrorKind;
-use std::net::{TcpListener, TcpStream};
+use std::net::{SocketAddr, TcpListener, TcpStream};
 use std::os::fd::{AsRawFd, OwnedFd};
 use std::time::Duration;
 
@@ -71,15 +71,15 @@ impl<'a> Listening<'a> {
         self.accepted
     }
 
-    /// Accepts the next connection.
-    pub(crate) fn accept(&mut self) -> Result<TcpStream, AcceptStop>
+    /// Accepts the next connection, which comes from this address.
+    pub(crate) fn accept(&mut self) -> Result<(TcpStream, SocketAddr), AcceptStop>
         ensures accepted { self.new.accepted ≡ count_after self.old.accepted result }
         ensures broken { self.new.is_broken ≡ (self.old.is_broken || is_broken result) }
     {
         match self.listener.accept() {
-            Ok((stream, _)) => {
+            Ok(accepted) => {
                 self.accepted = self.accepted.saturating_add(1);
-                Ok(stream)
+                Ok(accepted)
             }
             Err(error) => {
                 let stop = stop_of(&error);

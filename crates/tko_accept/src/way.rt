@@ -4,7 +4,7 @@ use crate::clients::AcceptedClient;
 use crate::room::ClientPlace;
 use crossbeam_channel::Sender;
 use std::alloc::{AllocError, Global};
-use std::net::TcpStream;
+use std::net::{SocketAddr, TcpStream};
 use std::sync::Wait;
 use tko_threads::Patience;
 
@@ -18,10 +18,12 @@ pub trait Way {
     /// What holds once no worker takes clients any more.
     ghost is_closed: { Self → Type 0 };
 
-    /// Makes the client of a connection, whose socket was set up with these time limits.
+    /// Makes the client of a connection from this address, whose socket was set up with these time
+    /// limits.
     fn client(
         alloc: Global,
         stream: TcpStream,
+        address: SocketAddr,
         place: ClientPlace,
         patience: Patience,
     ) -> Result<Self::Client, AllocError>;
@@ -53,10 +55,11 @@ impl Way for OneQueue {
     fn client(
         alloc: Global,
         stream: TcpStream,
+        address: SocketAddr,
         place: ClientPlace,
         patience: Patience,
     ) -> Result<AcceptedClient, AllocError> {
-        AcceptedClient::new(alloc, stream, place, patience)
+        AcceptedClient::new(alloc, stream, address, place, patience)
     }
 
     fn send<R: Wait>(&mut self, rt: &R, client: AcceptedClient) -> bool {

@@ -14,11 +14,11 @@ use Rattle.tko_event_threads.specs.Turns.{IsHostRound, IsTurnEnd}
 -- how many clients ended is no matter of a worker's order
 pub order_whatever_ended : {L T P : Type 0} (sight : Sight L T) (is_ready : Readiness P T) (old new : WorkerState L T P) (ends : EndCounts)
     → new ≡ record old { ends = ends } → IsInOrder sight is_ready old → IsInOrder sight is_ready new
-order_whatever_ended {L} {T} {P} sight is_ready old new ends same order =
+order_whatever_ended {L} {T} {P} sight is_ready old new ends cleared order =
     let kept : IsInOrder sight is_ready (record old { ends = ends }) =
     record { ready = order.ready; linked = order.linked; nobody = order.nobody } in
     let Q : WorkerState L T P → Type 0 = λ worker. IsInOrder sight is_ready worker in
-    subst Q (sym same) kept
+    subst Q (sym cleared) kept
 
 module _ {H C : Type 0} (health : HealthGhosts H) where
   -- a round, and after it what is counted

@@ -4,21 +4,23 @@ ghost use Rattle.tko_model.specs.Numbers.{no_counts, saturated};
 ghost use Rattle.tko_event_threads.specs.Accounting.{HasCounted, IsAccountSettled, fresh_account, with_ends, with_short};
 
 use crate::ends::{report_of, tell_ends};
-use crate::loads::worker_load;
+use crate::loads::{NO_SERVER_LOAD, worker_load};
 use crate::origin::Opening;
 use std::marker::{Model, PhantomData};
+use std::net::SocketAddr;
 use std::sync::Wait;
 use std::time::Clock;
 use tko_bytes::NoMemory;
 use tko_io::IoRuntime;
-use tko_loop::{Load, ServerLack};
+use tko_loop::{Load, ServerLack, TurnClock};
+use tko_metrics::ServerLoad;
 use tko_model::{Counts, Kind};
 use tko_prober::ProbeEnd;
 use tko_reply::Trails;
 use tko_route::{Attempt, Trail};
-use tko_text::Request;
+use tko_text::{Request, TextFault};
 use tko_threads::{Account, Metered, WorkerReport};
-use tko_worker::EndCounts;
+use tko_worker::{BinaryClients, EndCounts};
 
 /// What a worker counts, its account, and its report, which were reached from where the worker
 /// began: what is recorded is counted, and the account is given what was counted since it was
@@ -75,6 +77,25 @@ impl<'a, 'r, N: Opening> Accounted<'a, 'r, N> {
         self.report.add(&report_of(ends));
     }
 
+    /// Whether what happens is metered, and so timed.
+    pub(crate) fn is_metered(&self) -> bool {
+        self.metered.is_metered()
+    }
+
+    /// The worker looks at the moment that this clock shows.
+    pub(crate) fn look_at(&mut self, clock: &TurnClock)
+        ensures { self.new ≡ self.old }
+    {
+        self.metered.look_at(clock.micros());
+    }
+
+    /// Tells which of the clients that ended spoke the binary protocol.
+    pub(crate) fn refuse_binary<R: Wait + Clock>(&self, rt: &R, clients: BinaryClients) {
+        for _ in 0..clients.count {
+            self.metered.refuse_binary(rt, clients.last);
+        }
+    }
+
     /// Tells that clients which came could not be taken in.
     pub(crate) fn refuse_clients(&self, count: u64) {
         for _ in 0..count {
@@ -82,18 +103,28 @@ impl<'a, 'r, N: Opening> Accounted<'a, 'r, N> {
         }
     }
 
-    /// Tells how much the worker serves, if it was looked at.
-    pub(crate) fn set_load(&self, load: Option<Load>) {
-        if let Some(load) = load {
-            self.metered.set_load(worker_load(&load));
+    /// Tells how much the worker serves.
+    pub(crate) fn set_load(&self, load: &Load) {
+        self.metered.set_load(worker_load(load));
+    }
+
+    /// Tells what the worker has to do with a server.
+    pub(crate) fn set_server_load(&self, server: usize, load: ServerLoad) {
+        self.metered.set_server_load(server, load);
+    }
+
+    /// Tells that the worker serves nobody, and has nothing to do with any of so many servers.
+    pub(crate) fn set_no_load(&self, servers: usize) {
+        self.set_load(&Load::none());
+        for server in 0..servers {
+            self.set_server_load(server, NO_SERVER_LOAD);
         }
     }
 
-    /// Tells what the proxy itself lacked for a connection, if it lacked anything.
-    pub(crate) fn tell_lack<R: Wait + Clock>(&self, rt: &R, lacked: Option<ServerLack>) {
-        if let Some(ServerLack { server, lack }) = lacked {
-            self.metered.log().tell_lack(rt, server, lack);
-        }
+    /// Tells what the proxy itself lacked for a connection.
+    pub(crate) fn tell_lack<R: Wait + Clock>(&self, rt: &R, lacked: ServerLack) {
+        let ServerLack { server, lack } = lacked;
+        self.metered.log().tell_lack(rt, server, lack);
     }
 
     /// Adds what was counted since the last time to the account, where so many probes were sent in
@@ -156,5 +187,21 @@ impl<'a, 'r, N: Opening> Trails for Accounted<'a, 'r, N> {
 
     fn probed<R: IoRuntime>(&mut self, rt: &R, probe: &ProbeEnd) {
         self.metered.probed(rt, probe);
+    }
+
+    fn refused<R: IoRuntime>(&mut self, rt: &R, fault: TextFault, client: Option<SocketAddr>) {
+        self.metered.refused(rt, fault, client);
+    }
+
+    fn now(&self) -> Option<u64> {
+        self.metered.now()
+    }
+
+    fn responded(&mut self, server: usize, sent: u64) {
+        self.metered.responded(server, sent);
+    }
+
+    fn replied(&mut self, read: u64) {
+        self.metered.replied(read);
     }
 }

@@ -34,8 +34,11 @@ pub(crate) fn report_of(ends: &EndCounts) -> WorkerReport
     }
 }
 
-/// Tells the meter and the log how each of these clients ended.
+/// Tells the meter and the log how each of these clients ended, if any did.
 pub(crate) fn tell_ends(metered: &Metered<'_>, ends: &EndCounts) {
+    if !are_any(ends) {
+        return;
+    }
     tell(metered, ends.finished, Ending::Done);
     tell(metered, ends.line_too_long, Ending::LineTooLong);
     tell(metered, ends.memory, Ending::Memory);

@@ -12,15 +12,17 @@ ghost use Rattle.tko_event_threads.specs.Turns.{IsTurnEnd, KeepsToServe};
 
 use crate::accounted::Accounted;
 use crate::ends::are_any;
+use crate::loads::server_load;
 use crate::origin::Opening;
 use std::alloc::Global;
+use std::net::SocketAddr;
 use std::sync::Wait;
 use tko_bytes::NoMemory;
 use tko_client::{EventClient, Lent};
 use tko_health::Health;
 use tko_io::IoRuntime;
 use tko_keys::KeyPlan;
-use tko_loop::{Host, Load, ServerLack};
+use tko_loop::{Host, Load, ServerLack, TurnClock};
 use tko_port::Port;
 use tko_roster::PartsVisit;
 use tko_rounds::Rounds;
@@ -41,6 +43,12 @@ pub(crate) struct EventHost<'r, R> {
     lacked: Option<ServerLack>,
 }
 
+/// A turn begins at the moment that this clock shows.
+#[derive(Drop)]
+struct TurnBegin<'k> {
+    clock: &'k TurnClock,
+}
+
 /// What is counted at the end of a turn.
 #[derive(Drop)]
 struct TurnEnd<'r, R> {
@@ -48,9 +56,6 @@ struct TurnEnd<'r, R> {
     ends: EndCounts,
     /// Whether memory ran out in the round.
     ran_out: bool,
-    refused: u64,
-    load: Option<Load>,
-    lacked: Option<ServerLack>,
     /// How many probes were sent in all.
     sent: u64,
 }
@@ -97,13 +102,49 @@ impl<'r, R: IoRuntime> EventHost<'r, R> {
             rt: self.rt,
             ends: worker.clients.take_ends(),
             ran_out,
-            refused: self.refused,
-            load: self.load.take(),
-            lacked: self.lacked.take(),
             sent: self.probes(),
         };
-        self.refused = 0;
         worker.clients.visit(turn);
+    }
+
+    /// Tells what was seen since the turn before, where anything was. The turn is of this moment.
+    fn tell<'c, 'a, 'm, L: Port + Drop, H: Health, N: Opening, C>(
+        &mut self,
+        worker: &mut EventWorker<L, EventClient, Lent<'c, R, H, Accounted<'a, 'm, N>, C>>,
+        moment: u64,
+    )
+        ensures rounds { self.new.rounds ≡ self.old.rounds }
+        ensures same { worker.new ≡ worker.old }
+    {
+        if let Some(clients) = worker.clients.take_binary() {
+            trails_of(worker).refuse_binary(self.rt, clients);
+        }
+        if 0 < self.refused {
+            trails_of(worker).refuse_clients(self.refused);
+            self.refused = 0;
+        }
+        if let Some(load) = self.load.take() {
+            tell_load(worker, &load, moment);
+        }
+        if let Some(lacked) = self.lacked.take() {
+            trails_of(worker).tell_lack(self.rt, lacked);
+        }
+    }
+}
+
+impl<'c, 'a, 'm, R, H: Health, N: Opening, C> PartsVisit<Lent<'c, R, H, Accounted<'a, 'm, N>, C>>
+    for TurnBegin<'_> {
+    ghost use Rattle.std.specs.Prelude.{◌≡◌};
+    ghost use Rattle.tko_client.specs.Steps.{HasStayed};
+
+    type Output = ();
+
+    ghost does = { λ turn old it new. new.parts ≡ old.parts };
+
+    ghost stays = { λ old new. HasStayed H.servers old.parts new.parts };
+
+    fn visit(self, lent: &mut Lent<'c, R, H, Accounted<'a, 'm, N>, C>) {
+        lent.parts.trails.look_at(self.clock);
     }
 }
 
@@ -124,9 +165,6 @@ impl<'r, 'c, 'a, 'm, R: IoRuntime, H: Health, N: Opening, C> PartsVisit<
         let trails = &mut lent.parts.trails;
         trails.note_short(self.ran_out);
         trails.count_ends(&self.ends);
-        trails.refuse_clients(self.refused);
-        trails.set_load(self.load);
-        trails.tell_lack(self.rt, self.lacked);
         if are_any(&self.ends) {
             trails.settle(self.rt, self.sent);
         }
@@ -144,8 +182,19 @@ impl<'r, 'c, 'a, 'm, R: IoRuntime, H: Health, N: Opening, C: Drop> Host<
     fn greet(
         &mut self,
         lent: &Lent<'c, R, H, Accounted<'a, 'm, N>, C>,
+        client: SocketAddr,
     ) -> Result<EventClient, NoMemory> {
-        Ok(make_client(lent.alloc, self.keys))
+        Ok(make_client(lent.alloc, self.keys, client))
+    }
+
+    fn began<L: Port + Drop>(
+        &mut self,
+        worker: &mut EventWorker<L, EventClient, Lent<'c, R, H, Accounted<'a, 'm, N>, C>>,
+        clock: &TurnClock,
+    ) {
+        if trails_of(worker).is_metered() {
+            worker.clients.visit(TurnBegin { clock });
+        }
     }
 
     fn round<L: Port + Drop>(
@@ -156,6 +205,7 @@ impl<'r, 'c, 'a, 'm, R: IoRuntime, H: Health, N: Opening, C: Drop> Host<
         due: u64,
     ) {
         let rounded = self.rounds.run(alloc, worker, moment, due);
+        self.tell(worker, moment);
         self.end_turn(worker, rounded.is_err());
     }
 
@@ -172,9 +222,34 @@ impl<'r, 'c, 'a, 'm, R: IoRuntime, H: Health, N: Opening, C: Drop> Host<
     }
 }
 
-/// A client that has just come. The keys of its requests are sent so, and one may be under way in
-/// any case.
-fn make_client(alloc: Global, keys: KeyPlan) -> EventClient
+/// The observer of a worker's sessions.
+fn trails_of<'w, 'c, 'a, 'm, L: Port + Drop, R: IoRuntime, H: Health, N: Opening, C>(
+    worker: &'w EventWorker<L, EventClient, Lent<'c, R, H, Accounted<'a, 'm, N>, C>>,
+) -> &'w Accounted<'a, 'm, N> {
+    &worker.clients.parts().parts.trails
+}
+
+/// Tells that this is a worker's load, and what it has to do with each server at this moment.
+fn tell_load<'c, 'a, 'm, L: Port + Drop, R: IoRuntime, H: Health, N: Opening, C>(
+    worker: &EventWorker<L, EventClient, Lent<'c, R, H, Accounted<'a, 'm, N>, C>>,
+    load: &Load,
+    moment: u64,
+) {
+    let parts = &worker.clients.parts().parts;
+    if !parts.trails.is_metered() {
+        return;
+    }
+    parts.trails.set_load(load);
+    let probers = &parts.backend.probers;
+    for server in 0..probers.servers() {
+        let load = server_load(worker, probers, server, moment);
+        parts.trails.set_server_load(server, load);
+    }
+}
+
+/// A client that has just come from this address. The keys of its requests are sent so, and one may
+/// be under way in any case.
+fn make_client(alloc: Global, keys: KeyPlan, address: SocketAddr) -> EventClient
     ensures client { client_of result ≡ new_client (for_client keys) }
     ensures here { awaits result ≡ [] }
     ensures ready { (config : Configuration) → IsReadyAfter config [] [] result }
@@ -183,5 +258,7 @@ fn make_client(alloc: Global, keys: KeyPlan) -> EventClient
         most: keys.most.max(1),
         grouping: keys.grouping,
     };
-    EventClient::new(alloc, plan)
+    let mut client = EventClient::new(alloc, plan);
+    client.note_address(address);
+    client
 }

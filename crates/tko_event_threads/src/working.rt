@@ -19,7 +19,7 @@ use tko_events::WorkerLog;
 use tko_health::{Health, Seating};
 use tko_io::IoRuntime;
 use tko_keys::KeyPlan;
-use tko_loop::{Addresses, EventLoop, Load, LoopEntry, LoopLimits};
+use tko_loop::{Addresses, EventLoop, LoopEntry, LoopLimits};
 use tko_pools::Config;
 use tko_prober::{Backend, Probers};
 use tko_rounds::Rounds;
@@ -206,7 +206,9 @@ fn serve_all<
         first_ask,
     } = ways;
     let mut host = EventHost::new(rt, rounds, keys);
-    lent.parts.trails.set_load(Some(Load::none()));
+    lent.parts
+        .trails
+        .set_no_load(lent.parts.backend.probers.servers());
     let (lent, ran_out) = match EventLoop::new(rt, alloc, way_in, lent, servers, limits) {
         Ok(mut it) => {
             first_ask.report(rt);
@@ -220,6 +222,7 @@ fn serve_all<
         trails,
         ..
     } = lent.parts;
+    trails.set_no_load(backend.probers.servers());
     end(rt, seating, backend.health, trails, host.probes(), ran_out)
 }
 

@@ -1,12 +1,12 @@
 -- What the log tells of a server: which replies change a mark, and what came of an exchange.
-use Rattle.std.specs.Prelude.{ℕ, Option, Some, None, option_map, Result, Ok, Err}
+use Rattle.std.specs.Prelude.{ℕ, Bool, true, false, Option, Some, None, option_map, Result, Ok, Err}
 use Rattle.tko_links.specs.declared.links.ExchangeNoMemory.{ExchangeNoMemory}
 use Rattle.tko_links.specs.declared.links.Outcome.{Outcome}
 use Rattle.tko_links.specs.declared.links.Outcome.TheVariants as outcome
 use Rattle.tko_model.specs.declared.mark.Reply.{Reply}
 use Rattle.tko_model.specs.declared.mark.Reply.TheVariants as reply
-use Rattle.tko_metrics.specs.declared.worker_meter.Marking.{Marking}
-use Rattle.tko_metrics.specs.declared.worker_meter.Marking.TheVariants as marking
+use Rattle.tko_metrics.specs.declared.marking.Marking.{Marking}
+use Rattle.tko_metrics.specs.declared.marking.Marking.TheVariants as marking
 use Rattle.tko_events.specs.declared.event.Cause.{Cause}
 use Rattle.tko_events.specs.declared.event.Cause.TheVariants as cause
 use Rattle.tko_events.specs.declared.event.ServerChange.{ServerChange}
@@ -31,6 +31,33 @@ change_in (reply.Reset count) = None
 change_in (reply.Unmarked mark) = Some change.Unmarked
 change_in (reply.Released mark) = Some change.Released
 change_in (reply.NotMine mark) = None
+
+-- whether a server is not marked, once the health replied so to a soft failure of it
+abbrev pub leaves_in_use : Reply → Bool
+leaves_in_use (reply.Up count) = false
+leaves_in_use (reply.Marked mark) = false
+leaves_in_use (reply.Counted count) = true
+leaves_in_use reply.TookSoft = false
+leaves_in_use reply.Full = true
+leaves_in_use (reply.Already mark) = false
+leaves_in_use reply.Worn = true
+leaves_in_use reply.Contended = true
+leaves_in_use reply.TookHard = false
+leaves_in_use reply.Hardened = false
+leaves_in_use reply.Clean = false
+leaves_in_use (reply.Reset count) = false
+leaves_in_use (reply.Unmarked mark) = false
+leaves_in_use (reply.Released mark) = false
+leaves_in_use (reply.NotMine mark) = false
+
+-- whether an attempt that came to this timed out and left the server in use
+abbrev pub is_slow : Outcome → Reply → Bool
+is_slow (outcome.Reply response) reply = false
+is_slow outcome.Timeout reply = leaves_in_use reply
+is_slow outcome.Refused reply = false
+is_slow outcome.Broken reply = false
+is_slow outcome.Aborted reply = false
+is_slow outcome.Spent reply = false
 
 -- the mark that its worker has on the server after a change; a probe leaves it as it was
 abbrev pub marking_after : ServerChange → Option Marking
@@ -72,6 +99,8 @@ marking_in what.Listening = None
 marking_in (what.Server server worker change cause) =
     option_map (λ mark. (server, mark)) (marking_after change)
 marking_in (what.Lacking server lack) = None
+marking_in (what.Slow server count) = None
+marking_in (what.Refused why count client) = None
 marking_in (what.LookedUp server end) = None
 marking_in (what.Clients sessions faults) = None
 marking_in what.Ended = None

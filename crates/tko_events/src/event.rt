@@ -3,8 +3,9 @@ ghost use Rattle.std.specs.Prelude.{◌≡◌, None, Some};
 ghost use Rattle.tko_events.specs.Events.{cause_of, cause_of_outcome, change_after, change_in, marking_after, marking_in, reported_change};
 ghost use Rattle.tko_events.specs.Lines.{cause_word, change_word, lack_word, reason_word};
 
+use std::net::SocketAddr;
 use tko_links::{ExchangeNoMemory, Outcome};
-use tko_metrics::Marking;
+use tko_metrics::{Marking, Refusal};
 use tko_model::Reply;
 use tko_tcp::{Lack, LookUpEnd, Unresolved};
 
@@ -35,6 +36,18 @@ pub enum What {
     Lacking {
         server: usize,
         lack: Lack,
+    },
+    /// So many requests to this server timed out since that was last told, and it stays in use.
+    Slow {
+        server: usize,
+        count: u64,
+    },
+    /// Something was refused for this so often since that was last told, the last time of the
+    /// client at this address, where that is known.
+    Refused {
+        why: Refusal,
+        count: u64,
+        client: Option<SocketAddr>,
     },
     /// A look-up of this server's name ended otherwise than the one before it.
     LookedUp {
@@ -139,7 +152,8 @@ impl What {
         match self {
             What::Server { server, change, .. } => Some((server, change.marking()?)),
             What::Started | What::Listening | What::Clients { .. } | What::Ended => None,
-            What::Lacking { .. } | What::LookedUp { .. } => None,
+            What::Lacking { .. } | What::Slow { .. } => None,
+            What::Refused { .. } | What::LookedUp { .. } => None,
         }
     }
 }

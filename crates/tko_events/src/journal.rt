@@ -6,6 +6,8 @@ ghost use Rattle.tko_events.specs.Lines.{IsJournalBegun, address_at, count_in, k
 use crate::event::{Cause, LogEvent, ServerChange, What, lack_word, reason_word};
 use crate::moment::Utc;
 use std::alloc::{AllocError, Global};
+use std::net::SocketAddr;
+use tko_metrics::Refusal;
 use tko_tcp::{Lack, LookUpEnd};
 
 /// The mark of a server in a line.
@@ -71,6 +73,11 @@ impl Journal {
                 cause,
             } => self.server_line(alloc, utc, server, worker, change, cause),
             What::Lacking { server, lack } => self.lack_line(alloc, utc, server, lack),
+            What::Slow { server, count } => {
+                let name = self.name(server);
+                format!(in alloc; "{utc} slow server={name} count={count}\n")
+            }
+            What::Refused { why, count, client } => refused_line(alloc, utc, why, count, client),
             What::LookedUp { server, end } => self.name_line(alloc, utc, server, end),
             What::Clients { sessions, faults } => {
                 format!(in alloc; "{utc} clients sessions={sessions} faults={faults}\n")
@@ -158,6 +165,23 @@ impl Journal {
             return (Marked::Up, 0);
         }
         self.servers[server].note(u64::from(self.failures), change)
+    }
+}
+
+/// The line of what was refused so often, the last time of the client at this address.
+fn refused_line(
+    alloc: Global,
+    utc: Utc,
+    why: Refusal,
+    count: u64,
+    client: Option<SocketAddr>,
+) -> Result<String, AllocError> {
+    let kind = why.word();
+    match client {
+        Some(client) => {
+            format!(in alloc; "{utc} refused kind={kind} count={count} client={client}\n")
+        }
+        None => format!(in alloc; "{utc} refused kind={kind} count={count} client=unknown\n"),
     }
 }
 

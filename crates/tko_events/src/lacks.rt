@@ -50,7 +50,7 @@ impl SaidLacks {
 
 /// From which moment on it may be said again, if it is said at this one; `None` if it may not be
 /// said, since it may be from `due` on. A moment that far ahead is of a clock that was set back.
-fn say_again(due: u64, now: u64) -> Option<u64>
+pub(crate) fn say_again(due: u64, now: u64) -> Option<u64>
     ensures { IsLimited due now result }
 {
     let next = now.saturating_add(LACKS_EVERY);

@@ -19,6 +19,8 @@ mod line_writer;
 mod log;
 mod moment;
 mod reader;
+mod said_counts;
+mod slow;
 mod worker_log;
 
 pub use event::{Cause, LogEvent, ServerChange, What};

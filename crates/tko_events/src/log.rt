@@ -2,15 +2,17 @@
 
 use crate::event::{LogEvent, What};
 use crate::lacks::SaidLacks;
-use crate::moment::now;
 use crate::reader::LogReader;
+use crate::said_counts::SaidCounts;
 use crossbeam_channel::{Sender, TrySendError, bounded};
 use std::alloc::{AllocError, Global};
+use std::net::SocketAddr;
 use std::sync::atomic::{AtomicU64, Ordering};
 use std::sync::{Arc, Wait};
 use std::time::Clock;
 use tko_io::IoRuntime;
-use tko_metrics::Meter;
+use tko_metrics::{Meter, Refusal, moment_now};
+use tko_model::MAX_SERVERS;
 use tko_tcp::{Lack, LookUpEnd, LookUpObserver};
 
 /// How many events wait for the reader at most; more are counted and lost.
@@ -28,6 +30,10 @@ pub(crate) struct SharedLog {
     pub(crate) faults: AtomicU64,
     pub(crate) ended: AtomicU64,
     said: SaidLacks,
+    /// Of each server, the requests that timed out without a mark.
+    slow: SaidCounts,
+    /// Of each reason, what was refused.
+    refused: SaidCounts,
 }
 
 /// Takes events from any thread. It never waits for a reader: where no room is left, an event is
@@ -50,6 +56,8 @@ pub fn open(alloc: Global) -> Result<(Log, LogReader), AllocError> {
             faults: AtomicU64::new(0),
             ended: AtomicU64::new(0),
             said: SaidLacks::new(),
+            slow: SaidCounts::new(alloc, MAX_SERVERS as usize)?,
+            refused: SaidCounts::new(alloc, Refusal::ALL.len())?,
         },
     )?;
     let reader = LogReader {
@@ -109,7 +117,7 @@ impl Log {
     /// Tells what happens at this moment.
     pub fn tell<R: Wait + Clock>(&self, rt: &R, what: What) {
         if self.is_on() {
-            let moment = Some(now(rt));
+            let moment = Some(moment_now(rt));
             self.send(rt, LogEvent { moment, what });
         }
     }
@@ -120,7 +128,7 @@ impl Log {
         let Some(shared) = &self.shared else {
             return;
         };
-        let moment = now(rt);
+        let moment = moment_now(rt);
         if shared.said.say(lack, moment) {
             self.send(
                 rt,
@@ -129,6 +137,38 @@ impl Log {
                     what: What::Lacking { server, lack },
                 },
             );
+        }
+    }
+
+    /// Tells that a request to a server timed out and that the server stays in use, at most once in
+    /// ten seconds for each server, with how many did since.
+    pub(crate) fn tell_slow<R: Wait + Clock>(&self, rt: &R, server: usize) {
+        let Some(shared) = &self.shared else {
+            return;
+        };
+        let moment = moment_now(rt);
+        if let Some(count) = shared.slow.count(server, moment) {
+            self.send(
+                rt,
+                LogEvent {
+                    moment: Some(moment),
+                    what: What::Slow { server, count },
+                },
+            );
+        }
+    }
+
+    /// Tells that what the client at this address sent was refused, at most once in ten seconds for
+    /// each reason, with how often that was since.
+    pub fn tell_refused<R: Wait + Clock>(&self, rt: &R, why: Refusal, client: Option<SocketAddr>) {
+        let Some(shared) = &self.shared else {
+            return;
+        };
+        let moment = moment_now(rt);
+        if let Some(count) = shared.refused.count(why.place(), moment) {
+            let what = What::Refused { why, count, client };
+            let moment = Some(moment);
+            self.send(rt, LogEvent { moment, what });
         }
     }
 

@@ -4,12 +4,12 @@ use crate::event::{LogEvent, What};
 use crate::journal::Journal;
 use crate::line_writer::LineWriter;
 use crate::log::SharedLog;
-use crate::moment::now;
 use crossbeam_channel::{Receiver, RecvTimeoutError};
 use std::alloc::{AllocError, Global};
 use std::sync::atomic::Ordering;
 use std::sync::{Arc, Wait};
 use std::time::{Clock, Duration};
+use tko_metrics::moment_now;
 
 /// How long it waits for the next event, in milliseconds.
 const TURN: u64 = 1000;
@@ -41,7 +41,7 @@ impl LogReader {
         journal: &mut Journal,
     ) {
         let mut sum = Sum {
-            moment: now(rt),
+            moment: moment_now(rt),
             faults: 0,
         };
         let mut writer = LineWriter::new();
@@ -72,7 +72,7 @@ impl LogReader {
     /// Writes how many events were lost since the last such line, if there are any.
     fn write_lost<R: Wait + Clock + Eprint>(&self, rt: &R, writer: &mut LineWriter) {
         writer.lose(self.shared.lost.swap(0, Ordering::SeqCst));
-        writer.write_lost(rt, now(rt));
+        writer.write_lost(rt, moment_now(rt));
     }
 
     /// Writes the sum of the clients, where more of them ended by a fault, at most once in this
@@ -86,7 +86,7 @@ impl LogReader {
         sum: &mut Sum,
         every: u64,
     ) {
-        let moment = now(rt);
+        let moment = moment_now(rt);
         let faults = self.shared.faults.load(Ordering::SeqCst);
         if faults == sum.faults || moment.saturating_sub(sum.moment) < every {
             return;
@@ -109,7 +109,7 @@ fn write_event<R: Clock + Eprint>(
     writer: &mut LineWriter,
     event: LogEvent,
 ) {
-    match journal.line(alloc, event, now(rt)) {
+    match journal.line(alloc, event, moment_now(rt)) {
         Ok(line) => writer.write(rt, line.as_str()),
         Err(_) => writer.lose(1),
     }

@@ -2,12 +2,12 @@
 
 use crate::event::{LogEvent, ServerChange, What};
 use crate::log::Log;
-use crate::moment::now;
+use crate::slow::is_slow;
 use std::alloc::AllocError;
 use std::sync::Wait;
 use std::time::Clock;
 use tko_links::{ExchangeNoMemory, Outcome};
-use tko_metrics::WorkerMeter;
+use tko_metrics::{WorkerMeter, moment_now};
 use tko_model::Reply;
 
 /// One worker's end of the log and of the meter beside it, which the worker owns. It is told what
@@ -54,9 +54,12 @@ impl WorkerLog {
         outcome: &Outcome,
         reply: Reply,
     ) {
+        if is_slow(outcome, reply) {
+            self.log.tell_slow(rt, server);
+        }
         if let Some(what) = What::of_attempt(server, self.worker, outcome, reply) {
             if self.is_on() {
-                self.send(rt, Some(now(rt)), what);
+                self.send(rt, Some(moment_now(rt)), what);
             }
         }
     }
@@ -72,7 +75,7 @@ impl WorkerLog {
         if !self.is_on() {
             return;
         }
-        let moment = Some(now(rt));
+        let moment = Some(moment_now(rt));
         self.send(rt, moment, What::of_probe(server, self.worker, came));
         if let Some(what) = What::after_probe(server, self.worker, came, reply) {
             self.send(rt, moment, what);

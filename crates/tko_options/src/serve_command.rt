@@ -101,7 +101,7 @@ fn metrics<'a>(alloc: Global) -> Arg<'a>
     ensures local { result.global ≡ false }
 {
     text(alloc, "metrics", "ADDRESS").help(
-        "Address that answers HTTP `GET /metrics` for Prometheus, <host>:<port>, as 127.0.0.1:9311",
+        "Address of a page for people, `/metrics` and `/health`: <host>:<port>, as 127.0.0.1:9311",
     )
 }
 

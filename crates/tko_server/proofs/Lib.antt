@@ -1,4 +1,5 @@
 mod EndingLemmas
 mod EventMemberLemmas
 mod MemberLemmas
+mod RoutePoolLemmas
 mod RunLemmas

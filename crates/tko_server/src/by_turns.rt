@@ -3,7 +3,7 @@ ghost use Rattle.std.specs.Prelude.{◌≡◌, ◌<◌, ◌+◌, IfSome, length}
 ghost use Rattle.tko_server.specs.Turns.{turn_of};
 
 use std::alloc::{AllocError, Global};
-use std::net::TcpStream;
+use std::net::{SocketAddr, TcpStream};
 use std::sync::Wait;
 use tko_accept::{ClientPlace, Way};
 use tko_loop::{Arrival, Handover};
@@ -66,11 +66,13 @@ impl Way for ByTurns {
     fn client(
         _alloc: Global,
         stream: TcpStream,
+        address: SocketAddr,
         place: ClientPlace,
         _patience: Patience,
     ) -> Result<Arrival<ClientPlace>, AllocError> {
         Ok(Arrival {
             stream,
+            client: address,
             ticket: place,
         })
     }

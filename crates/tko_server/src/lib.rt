@@ -22,6 +22,7 @@ mod members;
 mod metering;
 mod naming;
 mod opening;
+mod route_pools;
 mod run_fault;
 mod running;
 mod serving;

@@ -1,7 +1,8 @@
-//! The metrics of a server.
+//! The metrics of a server, and the health of its pools.
 ghost use Rattle.std.specs.Prelude.{IfOk};
 ghost use Rattle.tko_server.specs.Beside.{IsMeterOf};
 
+use crate::route_pools::route_pools;
 use crate::running::Options;
 use std::alloc::{AllocError, Global};
 use std::net::TcpListener;
@@ -27,8 +28,9 @@ impl Metering {
         ensures { IfOk result (IsMeterOf options.now) }
     {
         let addresses = options.config.addresses();
+        let pools = route_pools(alloc, &options.config)?;
         let meter = Meter::open(alloc, options.settings.threads, addresses.len())?;
-        let scrapes = Scrapes::new(alloc, listener, meter.another()?, addresses, process)?;
+        let scrapes = Scrapes::new(alloc, listener, meter.another()?, addresses, pools, process)?;
         Ok(Metering { meter, scrapes })
     }
 }

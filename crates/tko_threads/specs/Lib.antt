@@ -1,8 +1,10 @@
 pub mod Accounts
 pub mod ClientEnds
+pub mod GivenOn
 pub mod Leaving
 pub mod Reports
 pub mod Sums
+pub mod Tallied
 pub mod Watching
 pub mod Worked
 pub mod Workers

@@ -4,6 +4,7 @@ ghost use Rattle.tko_pace.specs.Running.{ran_to};
 ghost use Rattle.tko_threads.specs.Watching.{longest_wait};
 
 use crate::patience::IDLE;
+use crate::request_times::RequestTimes;
 use tko_io::{Clock, IoRuntime};
 use tko_pace::RunningTime;
 
@@ -11,16 +12,19 @@ use tko_pace::RunningTime;
 /// client. A pause counts as long as one such wait; so does what else takes long, as the answer to
 /// a request, in which no time passes for a client.
 #[derive(Drop)]
-pub(crate) struct ClientClock<M> {
+pub(crate) struct ClientClock<'r, M> {
     clock: M,
     running: RunningTime,
+    /// What is told what the clock shows.
+    times: &'r RequestTimes,
 }
 
-impl<M: Clock> ClientClock<M> {
-    pub(crate) fn new(clock: M) -> ClientClock<M> {
+impl<'r, M: Clock> ClientClock<'r, M> {
+    pub(crate) fn new(clock: M, times: &'r RequestTimes) -> ClientClock<'r, M> {
         ClientClock {
             clock,
             running: RunningTime::new(u64::from(4 * IDLE)),
+            times,
         }
     }
 
@@ -31,6 +35,9 @@ impl<M: Clock> ClientClock<M> {
         ensures moment { result ≡ self.new.running.ran }
     {
         let shown = self.clock.next(rt);
+        if let Some(now) = self.clock.instant() {
+            self.times.look(now);
+        }
         self.running.read(shown, u64::from(IDLE));
         self.running.moment()
     }

@@ -21,7 +21,9 @@ mod paced;
 mod patience;
 mod pooling;
 mod report;
+mod request_times;
 mod source;
+mod tallied;
 mod watch;
 mod working;
 
@@ -32,7 +34,7 @@ pub use metered::Metered;
 pub use patience::{IDLE, Patience};
 pub use pooling::{Member, pool};
 pub use report::WorkerReport;
-pub use source::{Next, Source};
+pub use source::{Next, Source, Visitor};
 pub use working::{WorkerParts, worker};
 
 #[cfg(test)]

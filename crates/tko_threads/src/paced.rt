@@ -1,32 +1,33 @@
 //! Replies that are written at the pace at which a client must take them.
 
 use crate::client_clock::ClientClock;
+use crate::request_times::RequestTimes;
 use tko_io::{Clock, IoRuntime, Outlet, Stop, raise};
 use tko_pace::Pace;
 
 /// A client's outlet, which fails where the client takes its replies too slowly.
 #[derive(Drop)]
-pub(crate) struct Paced<O, M> {
+pub(crate) struct Paced<'r, O, M> {
     inner: O,
     pace: Pace,
-    clock: ClientClock<M>,
+    clock: ClientClock<'r, M>,
     /// How often the client was too slow.
     failures: u64,
 }
 
-impl<O, M: Clock> Paced<O, M> {
+impl<'r, O, M: Clock> Paced<'r, O, M> {
     /// The client must take 64 KiB of what waits, or all of it, in each `limit` milliseconds.
-    pub(crate) fn new(inner: O, clock: M, limit: u32) -> Paced<O, M> {
+    pub(crate) fn new(inner: O, clock: M, times: &'r RequestTimes, limit: u32) -> Paced<'r, O, M> {
         Paced {
             inner,
             pace: Pace::new(limit),
-            clock: ClientClock::new(clock),
+            clock: ClientClock::new(clock, times),
             failures: 0,
         }
     }
 }
 
-impl<O: Outlet, M: Clock> Outlet for Paced<O, M> {
+impl<'r, O: Outlet, M: Clock> Outlet for Paced<'r, O, M> {
     ghost use Rattle.std.specs.Prelude.{◌+◌};
 
     ghost takes = { λ a bytes b. O.takes a.inner bytes b.inner };

@@ -13,8 +13,10 @@ ghost use Rattle.tko_prober.specs.Ghosts.{backend_ghosts};
 
 use crate::attended::{Attendance, Attended};
 use crate::paced::Paced;
-use crate::{Account, Metered, Next, Source, WorkerReport, leave};
+use crate::request_times::RequestTimes;
+use crate::{Account, Metered, Next, Source, Visitor, WorkerReport, leave};
 use std::alloc::Global;
+use std::net::SocketAddr;
 use std::sync::Wait;
 use std::sync::atomic::AtomicU64;
 use tko_events::WorkerLog;
@@ -70,6 +72,7 @@ pub fn worker<R: IoRuntime, C: Source + Drop, S: Seating, L: Links + Drop, M: Cl
         log,
     } = parts;
     let requests = AtomicU64::new(0);
+    let times = RequestTimes::new(&log);
     let mut working = Working {
         parts: Parts {
             backend: Backend {
@@ -78,14 +81,14 @@ pub fn worker<R: IoRuntime, C: Source + Drop, S: Seating, L: Links + Drop, M: Cl
                 probers,
                 clock,
             },
-            trails: Metered::new(log, &requests),
+            trails: Metered::timed(log, &requests, &times),
             config,
         },
-        attendance: Attendance::new(rt, source.clock(rt), &requests),
+        attendance: Attendance::new(rt, source.clock(rt), &requests, &times),
         report: WorkerReport::new(),
         probes: 0,
     };
-    serve_clients(rt, alloc, &mut source, &mut working, &mut account);
+    serve_clients(rt, alloc, &mut source, &mut working, &mut account, &times);
     working.settle(rt, &mut account);
     let Working { parts, report, .. } = working;
     let Parts {
@@ -104,6 +107,7 @@ fn serve_clients<R: IoRuntime, C: Source, H: Health, L: Links, M: Clock>(
     source: &mut C,
     working: &mut Working<'_, H, L, M, C::Clock>,
     account: &mut Account<'_>,
+    times: &RequestTimes,
 )
     requires reach { Reaches H.servers L.servers working.old.parts }
     ensures reach { Reaches H.servers L.servers working.new.parts }
@@ -115,9 +119,15 @@ fn serve_clients<R: IoRuntime, C: Source, H: Health, L: Links, M: Clock>(
 {
     for _ in rt.forever() {
         match source.next(rt) {
-            Next::Connection(reader, writer, patience) => {
-                let writer = Paced::new(writer, source.clock(rt), patience.write_timeout);
-                working.serve(rt, alloc, reader, writer, patience.idle_timeout);
+            Next::Connection(visitor) => {
+                let Visitor {
+                    reader,
+                    writer,
+                    address,
+                    patience,
+                } = visitor;
+                let writer = Paced::new(writer, source.clock(rt), times, patience.write_timeout);
+                working.serve(rt, alloc, reader, writer, address, patience.idle_timeout);
                 working.settle(rt, account);
             }
             Next::Idle => working.round(rt),
@@ -137,9 +147,29 @@ struct Working<'r, H, L, M, W> {
 }
 
 impl<'r, H: Health, L: Links, M: Clock, W: Clock> Working<'r, H, L, M, W> {
-    /// Serves one client, which may complete no request for `limit` milliseconds. How its session
-    /// ended is counted, and the worker goes on.
+    /// Serves the client at this address, which may complete no request for `limit` milliseconds.
+    /// How its session ended is counted, and the worker goes on.
     fn serve<R: IoRuntime, I: Inlet + Drop, O: Outlet + Drop>(
+        &mut self,
+        rt: &R,
+        alloc: Global,
+        reader: I,
+        writer: O,
+        address: Option<SocketAddr>,
+        limit: u32,
+    )
+        requires reach { Reaches H.servers L.servers self.old.parts }
+        ensures reach { Reaches H.servers L.servers self.new.parts }
+        ensures session { (ended : Result Report SessionFault)
+            × IsSession (worker_ghosts (attended {M = W} I.Inlet) O.Outlet
+            (backend_ghosts H.Health L.Links M.Clock)) (at_work self.old) ended (at_work self.new) }
+    {
+        self.parts.trails.meet(address);
+        self.serve_met(rt, alloc, reader, writer, limit);
+    }
+
+    /// The same, once the observer knows where the client is.
+    fn serve_met<R: IoRuntime, I: Inlet + Drop, O: Outlet + Drop>(
         &mut self,
         rt: &R,
         alloc: Global,
@@ -156,8 +186,9 @@ impl<'r, H: Health, L: Links, M: Clock, W: Clock> Working<'r, H, L, M, W> {
         self.attendance.begin(rt, limit);
         let mut reader = Attended::new(reader, &mut self.attendance);
         let served = serve(rt, alloc, &mut reader, &mut writer, &mut self.parts);
+        let is_binary = reader.is_binary();
         self.report.count(&served);
-        self.parts.trails.end_session(ending_of(&served));
+        tell_end(rt, &self.parts.trails, ending_of(&served), is_binary);
     }
 
     /// One round of the probers.
@@ -198,6 +229,14 @@ impl<'r, H: Health, L: Links, M: Clock, W: Clock> Working<'r, H, L, M, W> {
         let more = probes.saturating_sub(self.probes);
         self.probes = probes;
         self.parts.trails.take().saturating_add(Kind::Probe, more)
+    }
+}
+
+/// Tells how a client's session ended, and whether the client spoke the binary protocol.
+fn tell_end<R: IoRuntime>(rt: &R, observer: &Metered<'_>, ending: Ending, is_binary: bool) {
+    observer.end_session(ending);
+    if is_binary {
+        observer.refuse_binary(rt, None);
     }
 }
 

@@ -1,9 +1,9 @@
 //! Which build this is. `release/stamp` writes this file.
 
 /// The sum of the sources, which `release/hash` prints.
-pub(crate) const SOURCES: &str = "880d9b73d36f11d47cf1b8ebad4a6c45c04a2df48a22685dac9c54044c0a4acd";
+pub(crate) const SOURCES: &str = "03e3c9d06a3141e0d2b694816e0243d89c603bc69a28606f1a39f16e3de5cdf6";
 
 /// The same, and the kit that built them.
 pub(crate) const BUILD: &str =
-    "sources 880d9b73d36f11d47cf1b8ebad4a6c45c04a2df48a22685dac9c54044c0a4acd, \
+    "sources 03e3c9d06a3141e0d2b694816e0243d89c603bc69a28606f1a39f16e3de5cdf6, \
     rattle-kit-13f logic dac8208d650f15bf";

@@ -1,6 +1,6 @@
 //! Clients in memory.
 
-use crate::{Next, Patience, Source};
+use crate::{Next, Patience, Source, Visitor};
 use std::sync::Mutex;
 use tko_io::{FrozenClock, IoRuntime, Outlet, Piped, Stop};
 
@@ -52,11 +52,12 @@ impl<'a> Source for OneClient<'a> {
 
     fn next<R: IoRuntime>(&mut self, _rt: &R) -> Next<Piped<&'a [u8]>, Screen<'a>> {
         match self.bytes.take() {
-            Some(bytes) => Next::Connection(
-                Piped::new(bytes),
-                Screen { text: self.text },
-                PATIENCE,
-            ),
+            Some(bytes) => Next::Connection(Visitor {
+                reader: Piped::new(bytes),
+                writer: Screen { text: self.text },
+                address: None,
+                patience: PATIENCE,
+            }),
             None => Next::Closed,
         }
     }
