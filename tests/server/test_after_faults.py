@@ -56,6 +56,16 @@ class AfterFaults(ServerTest):
             self.assertEqual(client.rest(), b"CLIENT_ERROR line too long\r\n")
         self.assert_another_is_served(proxy)
 
+    def test_a_client_of_the_binary_protocol_is_no_fault(self):
+        proxy = self.served()
+        with proxy.client(limit=LIMIT) as client:
+            client.send(b"\x80")
+            self.assertEqual(client.rest(), b"")
+        with proxy.client(limit=LIMIT) as other:
+            self.assertEqual(other.ask(b"get a\r\n"), SERVED)
+        self.assertEqual(proxy.end(LIMIT)[0], 0)
+        self.assertNotIn(b"fault", proxy.error_text())
+
     def test_memory_that_runs_out(self):
         # The reply is larger than all addresses that the program has, since how many its threads set aside, and do not use,
         # differs from run to run. (An event-driven worker holds no reply above 64 MiB.)

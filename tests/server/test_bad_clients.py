@@ -83,15 +83,38 @@ class BadClients(ServerTest):
         self.assertLess(self.through.status("VmRSS"), before + 8192)
 
     def test_no_line_of_another_protocol_gets_through(self):
-        for line in (b"\x80\x01\0\0\0\0\0\0\0\0\0\0\0\0\0\0\0\0\0\0\0\0\0\0\n", b"mg a v\r\n", b"ms a 1\r\nx\r\n",
-                     b"GET / HTTP/1.1\r\nHost: a\r\n\r\n", b"*1\r\n$4\r\nPING\r\n", b"flush_all\r\n", b"shutdown\r\n",
-                     b"set a 0 0 1\rx\r\n", b"get a\r\rflush_all\r\n"):
+        for line in (b"mg a v\r\n", b"ms a 1\r\nx\r\n", b"GET / HTTP/1.1\r\nHost: a\r\n\r\n",
+                     b"*1\r\n$4\r\nPING\r\n", b"flush_all\r\n", b"shutdown\r\n", b"set a 0 0 1\rx\r\n",
+                     b"get a\r\rflush_all\r\n"):
             self.other.ask(store(b"a", b"kept"))
             with self.through.client() as client:
                 client.send(line + b"quit\r\n")
                 for reply in client.rest().split(b"\r\n")[:-1]:
                     self.assertIn(reply.split()[0], (b"ERROR", b"CLIENT_ERROR"))
             self.assertEqual(self.other.ask(b"get a\r\n"), values((b"a", b"kept")))
+
+    def test_of_the_binary_protocol_is_closed_at_once(self):
+        # The 24 bytes of the header of a `get`, of the key `a`; then what else begins with such a byte.
+        header = bytes([0, 0, 1, 0, 0, 0, 0, 0, 0, 0, 1]) + bytes(12)
+        for first in (b"\x80", b"\x81"):
+            for sent in (first + header, first + header + b"a", first, first + b"get a\r\nversion\r\n"):
+                with self.subTest(sent=sent), self.through.client(limit=0.5) as client:
+                    client.send(sent)
+                    self.assertEqual(self.first_byte(client), b"")
+
+    def first_byte(self, client):
+        """The first byte that comes, or none at the end. Where the proxy left bytes unread the system resets."""
+        try:
+            return client.socket.recv(1)
+        except ConnectionResetError:
+            return b""
+
+    def test_that_sends_a_byte_of_the_binary_protocol_later_is_answered(self):
+        for late in (b"\x80", b"\x81"):
+            with self.through.client() as client:
+                self.assertEqual(client.ask(late.join((b"get", b"a\r\n"))), b"ERROR\r\n")
+                self.assertEqual(client.ask(late + b"version\r\n"), b"ERROR\r\n")
+                self.assertEqual(client.ask(b"version\r\n"), VERSION)
 
     def test_random_bytes(self):
         random.seed(3)

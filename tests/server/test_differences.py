@@ -126,11 +126,13 @@ class Differences(ServerTest):
         with self.assertRaises((MemcacheError, OSError)):
             proxied.get_many(names)
 
-    def test_a_binary_client_waits(self):
-        behaviors = {"receive_timeout": 300000}
+    def test_a_binary_client_fails_at_once(self):
+        behaviors = {"receive_timeout": 5000000}
         self.assertTrue(pylibmc.Client([f"{HOST}:{self.direct.port}"], binary=True, behaviors=behaviors).set("a", 1))
+        began = time.monotonic()
         with self.assertRaises(pylibmc.Error):
             pylibmc.Client([f"{HOST}:{self.proxied.port}"], binary=True, behaviors=behaviors).set("a", 1)
+        self.assertLess(time.monotonic() - began, 3)
 
     def pylibmc(self, port):
         return pylibmc.Client([f"{HOST}:{port}"], binary=False)

@@ -39,6 +39,12 @@ def log_of(proxy):
     return kept
 
 
+def address_of(client):
+    """The address of a client, as its proxy sees it."""
+    host, port = client.socket.getsockname()
+    return f"{host}:{port}"
+
+
 class Log(ServerTest):
     def waits_for(self, proxy, words):
         wait_until(lambda: any(words in line for line in log_of(proxy)), 20, f"the log says {words}")
@@ -86,6 +92,20 @@ class Log(ServerTest):
             f"released {name} mark=up worker=0 outcome=none",
             "ended"])
 
+    def test_timeouts_that_mark_no_server_are_told_once_in_ten_seconds(self):
+        server = self.memcached()
+        proxy = self.proxy(configuration(only=[server]), threads=1, failures=5, timeout=300)
+        with proxy.client() as client:
+            server.pause()
+            for _ in range(4):
+                self.assertEqual(client.ask(b"get a\r\n"), b"SERVER_ERROR no server\r\n")
+            self.waits_for(proxy, f"slow server={server.address} count=1")
+            self.assertEqual(client.ask(b"get a\r\n"), b"SERVER_ERROR no server\r\n")
+            self.waits_for(proxy, f"marked server={server.address} mark=soft worker=0 outcome=timeout count=5")
+        # Four timed out without a mark within ten seconds, and the fifth marked it.
+        self.assertEqual([line for line in log_of(proxy) if line.startswith("slow")],
+                         [f"slow server={server.address} count=1"])
+
     def test_what_came_of_a_send_is_told_before_the_next_one_is_answered(self):
         near, is_told = self.closed(), threading.Event()
         far = self.fake(lambda *_: b"END\r\n" if is_told.wait(20) else b"")
@@ -105,10 +125,37 @@ class Log(ServerTest):
                 client.end_input()
                 client.rest()
         self.assertEqual(proxy.end(30)[0], 0)
-        lines = log_of(proxy)[2:]
+        lines = [line for line in log_of(proxy)[2:] if not line.startswith("refused ")]
         self.assertEqual(lines[-2:], ["clients sessions=3 faults=2", "ended"])
         # A sum is written at most once in some seconds, so a slow machine may have written one before.
         self.assertTrue(all(line.startswith("clients ") for line in lines[:-1]), lines)
+
+    def refused(self, proxy):
+        return [line for _, line in lines_of(proxy) if line.startswith("refused ")]
+
+    def test_refused_lines_are_told_once_in_ten_seconds_with_their_client(self):
+        proxy = self.proxy(configuration(only=[self.memcached()]), threads=2)
+        with proxy.client() as first, proxy.client() as second:
+            for _ in range(3):
+                self.assertEqual(first.ask(b"flush_all\r\n"), b"ERROR\r\n")
+            self.assertEqual(second.ask(b"gat 0 a\r\n"), b"ERROR\r\n")
+            self.assertEqual(second.ask(b"get\r\n"), b"CLIENT_ERROR bad command line format\r\n")
+            told = [f"refused kind=unknown_command count=1 client={address_of(first)}",
+                    f"refused kind=bad_line count=1 client={address_of(second)}"]
+            wait_until(lambda: len(self.refused(proxy)) >= 2, 10, "the log says both")
+            self.assertEqual(self.refused(proxy), told)
+            # The three that were not told are counted by the next line of their kind.
+            wait_until(lambda: first.ask(b"flush_all\r\n") and len(self.refused(proxy)) > 2, 20, "ten seconds pass")
+            again = rf"refused kind=unknown_command count=(\d+) client={address_of(first)}"
+            self.assertGreaterEqual(int(re.fullmatch(again, self.refused(proxy)[2])[1]), 4)
+
+    def test_a_client_of_the_binary_protocol_is_told(self):
+        proxy = self.proxy(configuration(only=[self.memcached()]), threads=1)
+        with proxy.client() as client:
+            address = address_of(client)
+            client.send(b"\x80" + bytes(23))
+            wait_until(lambda: self.refused(proxy), 10, "the log says it")
+        self.assertEqual(self.refused(proxy), [f"refused kind=binary count=1 client={address}"])
 
     def test_without_a_log(self):
         proxy = self.proxy(configuration(only=[self.closed()]), threads=1, log="off")

@@ -19,6 +19,12 @@ except ImportError:
 
 COUNTS = ("requests", "attempts", "skips", "replies", "no_server", "probes")
 LOADS = ("clients", "connections", "waiting_bytes")
+# The samples of a histogram: its buckets, the sum and the count.
+OF_TIMES = 16 + 2
+# Those of refused lines, commands, hits and misses, and the times of requests; and those of a server: sends, probes,
+# outcomes, what event-driven workers have in flight to it, times and two marks.
+OF_REQUESTS = 7 + 15 + 2 + OF_TIMES
+OF_SERVER = 2 + 5 + (1 if MODE == "events" else 0) + OF_TIMES + 2
 
 
 def ask(port, method="GET", path="/metrics", seconds=10):
@@ -148,7 +154,45 @@ class Metrics(ServerTest):
         proxy, port = self.metered(configuration(only=[self.memcached()]), threads=2)
         with proxy.client() as client:
             self.assertEqual(client.ask(b"get a\r\n"), b"END\r\n")
-            self.assertNotIn("tkoproxy_worker", ask(port)[2])
+            text = ask(port)[2]
+            self.assertNotIn("tkoproxy_worker", text)
+            self.assertNotIn("tkoproxy_server_in_flight", text)
+
+    def in_flight(self, port, *servers):
+        numbers = self.numbers(port)
+        return [numbers[f'tkoproxy_server_in_flight{{server="{server.address}"}}'] for server in servers]
+
+    @only_in("events", "workers on threads do not tell it")
+    def test_requests_in_flight_are_those_of_all_workers(self):
+        may_answer = threading.Event()
+        slow, other = self.fake(lambda _connection, _request: may_answer.wait(60) and b"END\r\n"), self.memcached()
+        proxy, port = self.metered(configuration(near=[slow], far=[other]), threads=2, timeout=30000)
+        clients = [self.client(proxy.port) for _ in range(4)]
+        for client in clients:
+            self.assertEqual(client.ask(b"version\r\n"), b"VERSION tkoproxy 1\r\n")
+        wait_until(lambda: self.loads(port, 2)[0] == 4, 5, "each is a client of a worker")
+        self.assertEqual(self.in_flight(port, slow, other), [0, 0])
+        for sent, client in enumerate(clients, 1):
+            client.send(b"get a\r\n")
+            wait_until(lambda: self.in_flight(port, slow, other) == [sent, 0], 5, "it is in flight")
+        # The server still has the request of a client that has left.
+        clients[0].close()
+        time.sleep(0.5)
+        self.assertEqual(self.in_flight(port, slow, other), [4, 0])
+        may_answer.set()
+        for client in clients[1:]:
+            self.assertEqual(client.reply(), b"END\r\n")
+        wait_until(lambda: self.in_flight(port, slow, other) == [0, 0], 5, "each was answered")
+
+    @only_in("events", "workers on threads do not tell it")
+    def test_requests_that_wait_for_a_connection_are_in_flight(self):
+        deaf = self.deaf()
+        proxy, port = self.metered(configuration(only=[deaf]), threads=1, timeout=3000)
+        with proxy.client() as client:
+            client.send(b"get a\r\n")
+            wait_until(lambda: self.in_flight(port, deaf) == [1], 3, "it waits for the connection")
+            self.assertEqual(client.reply(), b"SERVER_ERROR no server\r\n")
+        wait_until(lambda: self.in_flight(port, deaf) == [0], 5, "it was given up")
 
     def test_a_server_dies_and_returns(self):
         server = self.memcached()
@@ -256,7 +300,7 @@ class Metrics(ServerTest):
 
     def test_other_paths_and_methods(self):
         _, port = self.metered(configuration(only=[self.memcached()]), threads=1)
-        for path in ("/", "/metrics/", "/metric", "/stats"):
+        for path in ("//", "/metrics/", "/metric", "/stats"):
             self.assertEqual(ask(port, path=path)[0], 404)
         for method in ("POST", "PUT", "DELETE", "OPTIONS"):
             status, headers, text = ask(port, method)
@@ -333,7 +377,7 @@ class Metrics(ServerTest):
             deaf.connect((HOST, port))
             deaf.sendall(b"GET /metrics HTTP/1.1\r\nhost: x\r\n\r\n" * 100)
             of_workers = len(LOADS) if MODE == "events" else 0
-            self.assertEqual(len(numbers_in(ask(port, seconds=30)[2])), 14 + 3 + 199 * 4 + 1 + of_workers)
+            self.assertEqual(len(numbers_in(ask(port, seconds=30)[2])), 14 + 3 + OF_REQUESTS + 199 * OF_SERVER + 1 + of_workers)
 
     def test_it_ends_beside_a_client_that_stays(self):
         proxy, port = self.metered(configuration(only=[self.memcached()]), threads=1, connections=1)
